@@ -1,0 +1,45 @@
+-- Laws of a list that a loop fills from its first place on: the start, one place more, and the list once all are filled.
+-- Assumes nothing.
+use mathlib.Core.Path.{_≡_, refl, sym, subst, _∙_}
+use mathlib.Core.List.{List}
+use mathlib.Core.Logic.{⊎-elim}
+use Prim.Native.Nat.{ℕ, _+_, _≤_, _<_}
+use native.Mathlib.Nat.{not-suc-le-zero}
+use native.Mathlib.Omega.{arith}
+use lib.ListN.{length, getD, set, length-set, replicate, length-replicate, getD-replicate}
+use lib.Seq.{ext-getD, getD-set-same, getD-set-other}
+use Rattle.lists.specs.Filled.{Filled}
+use Rattle.lists.proofs.Order.{lt-or-ge}
+
+module _ {A : Type 0} (d : A) (f : ℕ → A) where
+  pub filled-none : (xs : List A) → Filled d f 0 xs xs
+  filled-none xs = record { long = refl; filled = λ k l. absurd (not-suc-le-zero l); others = λ k l. refl }
+
+  pub filled-next : {n : ℕ} {old new : List A} {v : A} → Filled d f n old new → n < length new → v ≡ f n
+      → Filled d f (n + 1) old (set new n v)
+  filled-next {n} {old} {new} {v} h l e =
+      record {
+        long = length-set new n v ∙ h .long;
+        filled = λ k b.
+            ⊎-elim
+            (λ (c : k < n). getD-set-other new n k v d (λ q. omega arith) ∙ h .filled k c)
+            (λ (c : n ≤ k).
+            let q : n ≡ k = omega arith in
+            subst (λ (j : ℕ). getD (set new n v) j d ≡ f j) q (getD-set-same new n v d l ∙ e))
+            (lt-or-ge k n);
+        others = λ k b. getD-set-other new n k v d (λ q. omega arith) ∙ h .others k (omega arith);
+      }
+
+  -- filled to the end it is any list that has these entries
+  pub filled-all : {n : ℕ} {old new : List A} (xs : List A) → Filled d f n old new → length old ≤ n
+      → length xs ≡ length old → ((k : ℕ) → k < length xs → getD xs k d ≡ f k) → new ≡ xs
+  filled-all {n} {old} {new} xs h l e g =
+      ext-getD d new xs (h .long ∙ sym e)
+      (λ k b. h .filled k (omega (arith, h .long)) ∙ sym (g k (omega (arith, h .long))))
+
+-- filled with one value
+pub filled-value : {A : Type 0} (d v : A) {n : ℕ} {old new : List A} → Filled d (λ (k : ℕ). v) n old new → length old ≤ n
+    → new ≡ replicate (length old) v
+filled-value d v {old = old} h l =
+    filled-all d _ (replicate (length old) v) h l (length-replicate (length old) v)
+    (λ k b. getD-replicate (length old) k v d (omega (arith, length-replicate (length old) v)))

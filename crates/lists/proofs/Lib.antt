@@ -1,0 +1,4 @@
+pub mod Order
+pub mod Run
+pub mod Fill
+pub mod Splice

@@ -1,0 +1,49 @@
+-- Laws of a run of places, for any step: one place taken, none left, equal at equal places; and of the list of a run.
+-- A loop states what it has still to do as a run that equals its goal: `run-next` is its turn, `run-none` its end.
+-- Assumes nothing.
+use mathlib.Core.Path.{_≡_, refl, sym, ap, ap₂, subst, _∙_}
+use mathlib.Core.List.{List, [], _∷_}
+use Prim.Native.Nat.{ℕ, zero, suc, _+_, _-_, _≤_, _<_}
+use native.Mathlib.Nat.{not-suc-le-zero, le-of-suc-le-suc, add-zero, zero-add}
+use native.Mathlib.Omega.{arith}
+use lib.ListN.{length, getD}
+use lib.Seq.{ext-getD}
+use Rattle.lists.specs.Run.{runOf, listed}
+
+module _ {A B : Type 0} (step : A → B → B) (done : B) where
+  pub run-next : (f : ℕ → A) (i n : ℕ) → 0 < n → runOf step done f i n ≡ step (f i) (runOf step done f (i + 1) (n - 1))
+  unfolding runOf
+  run-next f i n l =
+      let e : suc (n - 1) ≡ n = omega arith in
+      subst (λ (k : ℕ). runOf step done f i k ≡ step (f i) (runOf step done f (i + 1) (n - 1))) e refl
+
+  pub run-none : (f : ℕ → A) (i n : ℕ) → n ≡ 0 → runOf step done f i n ≡ done
+  unfolding runOf
+  run-none f i n e = ap (runOf step done f i) e
+
+  pub run-same : (f g : ℕ → A) (i n : ℕ) → ((j : ℕ) → i ≤ j → j < i + n → f j ≡ g j)
+      → runOf step done f i n ≡ runOf step done g i n
+  unfolding runOf
+  run-same f g i zero h = refl
+  run-same f g i (suc n) h =
+      ap₂ step (h i (omega arith) (omega arith)) (run-same f g (i + 1) n (λ j a b. h j (omega arith) (omega arith)))
+
+module _ {A : Type 0} (f : ℕ → A) where
+  pub listed-length : (i n : ℕ) → length (listed f i n) ≡ n
+  unfolding listed runOf
+  listed-length i zero = refl
+  listed-length i (suc n) = ap suc (listed-length (i + 1) n)
+
+  pub listed-at : (d : A) (i n k : ℕ) → k < n → getD (listed f i n) k d ≡ f (i + k)
+  unfolding listed runOf
+  listed-at d i zero k l = absurd (not-suc-le-zero l)
+  listed-at d i (suc n) zero l = ap f (sym (add-zero i))
+  listed-at d i (suc n) (suc k) l =
+      let e : i + 1 + k ≡ i + suc k = omega arith in
+      listed-at d (i + 1) n k (le-of-suc-le-suc l) ∙ ap f e
+
+  -- a list with these entries is the list of the run
+  pub listed-ext : (d : A) (l : List A) (n : ℕ) → length l ≡ n → ((k : ℕ) → k < n → getD l k d ≡ f k) → l ≡ listed f 0 n
+  listed-ext d l n e h =
+      ext-getD d l (listed f 0 n) (e ∙ sym (listed-length 0 n))
+      (λ k b. let b′ : k < n = omega arith in h k b′ ∙ ap f (sym (zero-add k)) ∙ sym (listed-at d 0 n k b′))

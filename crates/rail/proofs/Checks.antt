@@ -1,0 +1,122 @@
+-- Laws of checks in their order, as a function that answers a verdict uses them: a test that refused is the answer (`hit`,
+-- `unlike`), a test that passed leaves the rest (`miss`, `alike`); and what a verdict that is fine tells of each check.
+-- Assumes nothing.
+use mathlib.Core.Path.{_≡_, refl, sym, ap, subst, _∙_}
+use mathlib.Core.Logic.{⊎-elim}
+use Prim.Native.Nat.{ℕ, zero, suc, _+_, _-_, _≤_, _<_}
+use native.Mathlib.Nat.{eq-or-lt-of-le}
+use native.Mathlib.Decide.{ℕ-discrete}
+use native.Mathlib.Omega.{arith}
+use borrow.Author.Tests.{lt-ltb, le-ltb, eq-eqb, ne-eqb}
+use Rattle.lists.specs.Run.{runOf}
+use Rattle.lists.proofs.Order.{lt-or-ge}
+use Rattle.lists.proofs.Run.{run-next, run-none}
+use Rattle.rail.specs.declared.Refusal.{Refusal}
+use Rattle.rail.specs.declared.Verdict.{Verdict}
+use Rattle.rail.specs.declared.Verdict.the-variants.{Fine, Refused}
+use Rattle.rail.specs.Verdict.{refuse_when_below_, refuse_unless_is_, _andThen_, firstOf}
+
+-- ---- a check and those that follow
+
+refused-not-fine : {A : Type 0} {r : Refusal} → Refused r ≡ Fine → A
+refused-not-fine e = let z : _≡_ {A = ℕ} 0 1 = cc in let no-way : ⊥ = omega arith in absurd no-way
+
+-- x refused, so v does
+pub then-stop : (x y : Verdict) {v : Verdict} {r : Refusal} → v ≡ Refused r → v ≡ x → v ≡ x andThen y
+unfolding _andThen_
+then-stop x y p q = p ∙ ap (λ (u : Verdict). u andThen y) (sym p ∙ q)
+
+-- x passed, so the answer w is what y says
+pub then-pass : (x y w : Verdict) → x ≡ Fine → w ≡ y → w ≡ x andThen y
+unfolding _andThen_
+then-pass x y w p e = e ∙ ap (λ (u : Verdict). u andThen y) (sym p)
+
+pub then-fine : (x y : Verdict) → x andThen y ≡ Fine → (x ≡ Fine) × (y ≡ Fine)
+unfolding _andThen_
+then-fine Fine y e = (refl, e)
+then-fine (Refused r) y e = refused-not-fine e
+
+pub fine-then : {x y : Verdict} → x ≡ Fine → y ≡ Fine → x andThen y ≡ Fine
+fine-then {x} {y} p q = sym (then-pass x y Fine p (sym q))
+
+module _ (r : Refusal) (a b : ℕ) where
+  -- ---- a number below another
+
+  below-yes : a < b → Refused r ≡ refuse r when a below b
+  unfolding refuse_when_below_
+  below-yes l = rw (lt-ltb a b l) refl
+
+  pub below-no : b ≤ a → refuse r when a below b ≡ Fine
+  unfolding refuse_when_below_
+  below-no l = rw (le-ltb a b l) refl
+
+  pub hit : (y : Verdict) → a < b → Refused r ≡ (refuse r when a below b) andThen y
+  hit y l = then-stop (refuse r when a below b) y refl (below-yes l)
+
+  pub miss : (y w : Verdict) → b ≤ a → w ≡ y → w ≡ (refuse r when a below b) andThen y
+  miss y w l e = then-pass (refuse r when a below b) y w (below-no l) e
+
+  pub not-below : refuse r when a below b ≡ Fine → b ≤ a
+  not-below e =
+      ⊎-elim
+      (λ (l : a < b). refused-not-fine (below-yes l ∙ e))
+      (λ (l : b ≤ a). l)
+      (lt-or-ge a b)
+
+  -- ---- a number that is to be another
+
+  is-no : (a ≡ b → ⊥) → Refused r ≡ refuse r unless a is b
+  unfolding refuse_unless_is_
+  is-no n = rw (ne-eqb a b n) refl
+
+  pub is-yes : a ≡ b → refuse r unless a is b ≡ Fine
+  unfolding refuse_unless_is_
+  is-yes e = rw (eq-eqb a b e) refl
+
+  pub unlike : (y : Verdict) → (a ≡ b → ⊥) → Refused r ≡ (refuse r unless a is b) andThen y
+  unlike y n = then-stop (refuse r unless a is b) y refl (is-no n)
+
+  pub alike : (y w : Verdict) → a ≡ b → w ≡ y → w ≡ (refuse r unless a is b) andThen y
+  alike y w q e = then-pass (refuse r unless a is b) y w (is-yes q) e
+
+  pub is-other : refuse r unless a is b ≡ Fine → a ≡ b
+  is-other e = elim (ℕ-discrete a b) [
+    | yes q ↦ q
+    | no n ↦ refused-not-fine (is-no n ∙ e)
+  ]
+
+-- ---- the first refusal of a run: a loop's goal, as the work still to do
+
+module _ (f : ℕ → Verdict) (goal : Verdict) (i n : ℕ) where
+  -- check i passed: the rest is to do
+  pub first-again : {v : Verdict} → firstOf f i n ≡ goal → 0 < n → v ≡ Fine → v ≡ f i → firstOf f (i + 1) (n - 1) ≡ goal
+  unfolding firstOf
+  first-again e l p q = then-pass (f i) _ _ (sym q ∙ p) refl ∙ sym (run-next _andThen_ Fine f i n l) ∙ e
+
+  -- check i refused: that is the answer
+  pub first-stop : {v : Verdict} {r : Refusal} → firstOf f i n ≡ goal → 0 < n → v ≡ Refused r → v ≡ f i → v ≡ goal
+  unfolding firstOf
+  first-stop e l p q = then-stop (f i) _ p q ∙ sym (run-next _andThen_ Fine f i n l) ∙ e
+
+  -- nothing is left to check
+  pub first-done : firstOf f i n ≡ goal → n ≡ 0 → Fine ≡ goal
+  unfolding firstOf
+  first-done e z = sym (run-none _andThen_ Fine f i n z) ∙ e
+
+-- every check of a run that is fine is fine
+pub first-fine : (f : ℕ → Verdict) (i n : ℕ) → firstOf f i n ≡ Fine → (j : ℕ) → i ≤ j → j < i + n → f j ≡ Fine
+unfolding firstOf runOf
+first-fine f i zero e j a b = let no-way : ⊥ = omega arith in absurd no-way
+first-fine f i (suc n) e j a b =
+    let q = then-fine (f i) (firstOf f (i + 1) n) e in
+    ⊎-elim
+    (λ (z : i ≡ j). subst (λ (k : ℕ). f k ≡ Fine) z (q .0))
+    (λ (l : i < j). first-fine f (i + 1) n (q .1) j (omega arith) (omega arith))
+    (eq-or-lt-of-le a)
+
+-- and a run of checks that are fine is fine
+pub fine-first : (f : ℕ → Verdict) (i n : ℕ) → ((j : ℕ) → i ≤ j → j < i + n → f j ≡ Fine) → firstOf f i n ≡ Fine
+unfolding firstOf runOf
+fine-first f i zero h = refl
+fine-first f i (suc n) h =
+    fine-then (h i (omega arith) (omega arith)) (fine-first f (i + 1) n (λ j a b. h j (omega arith) (omega arith)))

@@ -1,0 +1,33 @@
+-- Checks in their order: each refuses by name or lets the next one speak. Document 01, "Numbers of refusal, in the order of checking".
+--   refuse r when a below b   refused for r where a is less than b, else fine
+--   refuse r unless a is b    refused for r where a differs from b, else fine
+--   v andThen w               what v says if it refuses, else what w says
+--   firstOf f i n             the first refusal of the checks f i, f (i + 1), .., n of them
+-- Assumes nothing.
+use Prim.Native.Nat.{ℕ}
+use mathlib.Core.Bool.{Bool, true, false}
+use lib.Dec.{ltb, eqb}
+use Rattle.lists.specs.Run.{runOf}
+use Rattle.rail.specs.declared.Refusal.{Refusal}
+use Rattle.rail.specs.declared.Verdict.{Verdict}
+use Rattle.rail.specs.declared.Verdict.the-variants.{Fine, Refused}
+
+infixr 20 _andThen_
+infix 30 refuse_when_below_ refuse_unless_is_
+-- a if the test holds, else b
+abbrev pub choose : Bool → Verdict → Verdict → Verdict
+choose true v w = v
+choose false v w = w
+
+unfoldable pub refuse_when_below_ : Refusal → ℕ → ℕ → Verdict
+refuse r when a below b = choose (ltb a b) (Refused r) Fine
+
+unfoldable pub refuse_unless_is_ : Refusal → ℕ → ℕ → Verdict
+refuse r unless a is b = choose (eqb a b) Fine (Refused r)
+
+unfoldable pub _andThen_ : Verdict → Verdict → Verdict
+Fine andThen w = w
+Refused r andThen w = Refused r
+
+unfoldable pub firstOf : (ℕ → Verdict) → ℕ → ℕ → Verdict
+firstOf f i n = runOf _andThen_ Fine f i n
