@@ -1,14 +1,17 @@
--- Laws of a run of places, for any step: one place taken, none left, equal at equal places; and of the list of a run.
+-- Laws of a run of places, for any step: one place taken, none left, equal at equal places; and of the lists made of a run.
 -- A loop states what it has still to do as a run that equals its goal: `run-next` is its turn, `run-none` its end.
 -- Assumes nothing.
 use mathlib.Core.Path.{_≡_, refl, sym, ap, ap₂, subst, _∙_}
 use mathlib.Core.List.{List, [], _∷_}
+use mathlib.Core.Logic.{⊎-elim}
 use Prim.Native.Nat.{ℕ, zero, suc, _+_, _-_, _≤_, _<_}
 use native.Mathlib.Nat.{not-suc-le-zero, le-of-suc-le-suc, add-zero, zero-add}
 use native.Mathlib.Omega.{arith}
-use lib.ListN.{length, getD}
+use lib.ListN.{length, getD, List·getD-eq-default}
 use lib.Seq.{ext-getD}
-use Rattle.lists.specs.Run.{runOf, listed}
+use Rattle.lists.specs.Run.{runOf, listed, padded, nth}
+use Rattle.lists.proofs.Choice.{below-yes, below-no}
+use Rattle.lists.proofs.Order.{lt-or-ge}
 
 module _ {A B : Type 0} (step : A → B → B) (done : B) where
   pub run-next : (f : ℕ → A) (i n : ℕ) → 0 < n → runOf step done f i n ≡ step (f i) (runOf step done f (i + 1) (n - 1))
@@ -47,3 +50,42 @@ module _ {A : Type 0} (f : ℕ → A) where
   listed-ext d l n e h =
       ext-getD d l (listed f 0 n) (e ∙ sym (listed-length 0 n))
       (λ k b. let b′ : k < n = omega arith in h k b′ ∙ ap f (sym (zero-add k)) ∙ sym (listed-at d 0 n k b′))
+
+-- ---- f 1, f 2, .., f n and then 0
+
+pub padded-length : (size n : ℕ) (f : ℕ → ℕ) → length (padded size n f) ≡ size
+unfolding padded
+padded-length size n f = listed-length _ 1 size
+
+-- place k, from 0
+pub padded-at : (size n : ℕ) (f : ℕ → ℕ) (k : ℕ) → k < n → k < size → getD (padded size n f) k 0 ≡ f (k + 1)
+unfolding padded
+padded-at size n f k l m =
+    let e : 1 + k ≡ k + 1 = omega arith in
+    listed-at _ 0 1 size k m ∙ below-no _ _ (omega arith) ∙ ap f e
+
+pub padded-past : (size n : ℕ) (f : ℕ → ℕ) (k : ℕ) → n ≤ k → getD (padded size n f) k 0 ≡ 0
+unfolding padded
+padded-past size n f k l =
+    ⊎-elim
+    (λ (m : k < size). listed-at _ 0 1 size k m ∙ below-yes _ _ (omega arith))
+    (λ (m : size ≤ k). List·getD-eq-default (padded size n f) 0 (rw (padded-length size n f) m))
+    (lt-or-ge k size)
+
+-- place i, from 1
+pub padded-nth : (size n : ℕ) (f : ℕ → ℕ) (i : ℕ) → 1 ≤ i → i ≤ n → n ≤ size → nth (padded size n f) i ≡ f i
+padded-nth size n f i a b c =
+    let e : i - 1 + 1 ≡ i = omega arith in
+    padded-at size n f (i - 1) (omega arith) (omega arith) ∙ ap f e
+
+-- a list with these entries is this list
+pub padded-ext : (size n : ℕ) (f : ℕ → ℕ) (l : List ℕ) → length l ≡ size
+    → ((k : ℕ) → k < n → k < size → getD l k 0 ≡ f (k + 1)) → ((k : ℕ) → n ≤ k → getD l k 0 ≡ 0) → l ≡ padded size n f
+padded-ext size n f l e g h =
+    ext-getD 0 l (padded size n f) (e ∙ sym (padded-length size n f))
+    (λ k b.
+    let m : k < size = omega arith in
+    ⊎-elim
+    (λ (c : k < n). g k c m ∙ sym (padded-at size n f k c m))
+    (λ (c : n ≤ k). h k c ∙ sym (padded-past size n f k c))
+    (lt-or-ge k n))

@@ -1,3 +1,4 @@
+pub mod Choice
 pub mod Run
 pub mod Filled
 pub mod Splice

@@ -7,8 +7,8 @@ use Prim.Native.Nat.{ℕ, zero, suc, _+_, _-_, _≤_, _<_}
 use native.Mathlib.Nat.{eq-or-lt-of-le}
 use native.Mathlib.Decide.{ℕ-discrete}
 use native.Mathlib.Omega.{arith}
-use borrow.Author.Tests.{lt-ltb, le-ltb, eq-eqb, ne-eqb}
 use Rattle.lists.specs.Run.{runOf}
+use Rattle.lists.proofs.Choice.{below-yes, below-no, same-yes, same-no}
 use Rattle.lists.proofs.Order.{lt-or-ge}
 use Rattle.lists.proofs.Run.{run-next, run-none}
 use Rattle.rail.specs.declared.Refusal.{Refusal}
@@ -42,66 +42,86 @@ fine-then {x} {y} p q = sym (then-pass x y Fine p (sym q))
 module _ (r : Refusal) (a b : ℕ) where
   -- ---- a number below another
 
-  below-yes : a < b → Refused r ≡ refuse r when a below b
+  refused-below : a < b → Refused r ≡ refuse r when a below b
   unfolding refuse_when_below_
-  below-yes l = rw (lt-ltb a b l) refl
+  refused-below l = sym (below-yes _ _ l)
 
-  pub below-no : b ≤ a → refuse r when a below b ≡ Fine
+  pub fine-not-below : b ≤ a → refuse r when a below b ≡ Fine
   unfolding refuse_when_below_
-  below-no l = rw (le-ltb a b l) refl
+  fine-not-below l = below-no _ _ l
 
   pub hit : (y : Verdict) → a < b → Refused r ≡ (refuse r when a below b) andThen y
-  hit y l = then-stop (refuse r when a below b) y refl (below-yes l)
+  hit y l = then-stop (refuse r when a below b) y refl (refused-below l)
 
   pub miss : (y w : Verdict) → b ≤ a → w ≡ y → w ≡ (refuse r when a below b) andThen y
-  miss y w l e = then-pass (refuse r when a below b) y w (below-no l) e
+  miss y w l e = then-pass (refuse r when a below b) y w (fine-not-below l) e
 
   pub not-below : refuse r when a below b ≡ Fine → b ≤ a
   not-below e =
       ⊎-elim
-      (λ (l : a < b). refused-not-fine (below-yes l ∙ e))
+      (λ (l : a < b). refused-not-fine (refused-below l ∙ e))
       (λ (l : b ≤ a). l)
       (lt-or-ge a b)
 
   -- ---- a number that is to be another
 
-  is-no : (a ≡ b → ⊥) → Refused r ≡ refuse r unless a is b
+  refused-other : (a ≡ b → ⊥) → Refused r ≡ refuse r unless a is b
   unfolding refuse_unless_is_
-  is-no n = rw (ne-eqb a b n) refl
+  refused-other n = sym (same-no _ _ n)
 
-  pub is-yes : a ≡ b → refuse r unless a is b ≡ Fine
+  pub fine-same : a ≡ b → refuse r unless a is b ≡ Fine
   unfolding refuse_unless_is_
-  is-yes e = rw (eq-eqb a b e) refl
+  fine-same e = same-yes _ _ e
 
   pub unlike : (y : Verdict) → (a ≡ b → ⊥) → Refused r ≡ (refuse r unless a is b) andThen y
-  unlike y n = then-stop (refuse r unless a is b) y refl (is-no n)
+  unlike y n = then-stop (refuse r unless a is b) y refl (refused-other n)
 
   pub alike : (y w : Verdict) → a ≡ b → w ≡ y → w ≡ (refuse r unless a is b) andThen y
-  alike y w q e = then-pass (refuse r unless a is b) y w (is-yes q) e
+  alike y w q e = then-pass (refuse r unless a is b) y w (fine-same q) e
 
-  pub is-other : refuse r unless a is b ≡ Fine → a ≡ b
-  is-other e = elim (ℕ-discrete a b) [
+  pub is-same : refuse r unless a is b ≡ Fine → a ≡ b
+  is-same e = elim (ℕ-discrete a b) [
     | yes q ↦ q
-    | no n ↦ refused-not-fine (is-no n ∙ e)
+    | no n ↦ refused-not-fine (refused-other n ∙ e)
   ]
 
--- ---- the first refusal of a run: a loop's goal, as the work still to do
+-- ---- a loop that looks for the first refusal of the checks 1 to m
 
-module _ (f : ℕ → Verdict) (goal : Verdict) (i n : ℕ) where
-  -- check i passed: the rest is to do
-  pub first-again : {v : Verdict} → firstOf f i n ≡ goal → 0 < n → v ≡ Fine → v ≡ f i → firstOf f (i + 1) (n - 1) ≡ goal
+-- the loop stands before check i: what the checks from i on will say is what all of them say
+pub record Searching (f : ℕ → Verdict) (m i : ℕ) : Type 0 where
+  pub least : 1 ≤ i
+  pub most : i ≤ m + 1
+  pub rest : firstOf f i (m + 1 - i) ≡ firstOf f 1 m
+
+module _ (f : ℕ → Verdict) (m : ℕ) where
+  pub search-first : Searching f m 1
+  search-first =
+      let e : m + 1 - 1 ≡ m = omega arith in
+      record { least = omega arith; most = omega arith; rest = rw e refl }
+
+  first-next : (i : ℕ) → 1 ≤ i → i ≤ m → firstOf f i (m + 1 - i) ≡ f i andThen firstOf f (i + 1) (m + 1 - (i + 1))
   unfolding firstOf
-  first-again e l p q = then-pass (f i) _ _ (sym q ∙ p) refl ∙ sym (run-next _andThen_ Fine f i n l) ∙ e
+  first-next i a b =
+      let e : m + 1 - i - 1 ≡ m + 1 - (i + 1) = omega arith in
+      run-next _andThen_ Fine f i (m + 1 - i) (omega arith) ∙ rw e refl
+
+  -- check i passed
+  pub search-next : {i : ℕ} {v : Verdict} → Searching f m i → i ≤ m → v ≡ Fine → v ≡ f i → Searching f m (i + 1)
+  search-next {i} h l p q =
+      record {
+        least = omega arith;
+        most = omega arith;
+        rest = then-pass (f i) _ _ (sym q ∙ p) refl ∙ sym (first-next i (h .least) l) ∙ h .rest;
+      }
 
   -- check i refused: that is the answer
-  pub first-stop : {v : Verdict} {r : Refusal} → firstOf f i n ≡ goal → 0 < n → v ≡ Refused r → v ≡ f i → v ≡ goal
-  unfolding firstOf
-  first-stop e l p q = then-stop (f i) _ p q ∙ sym (run-next _andThen_ Fine f i n l) ∙ e
+  pub search-stop : {i : ℕ} {v : Verdict} {r : Refusal} → Searching f m i → i ≤ m → v ≡ Refused r → v ≡ f i → v ≡ firstOf f 1 m
+  search-stop {i} h l p q = then-stop (f i) _ p q ∙ sym (first-next i (h .least) l) ∙ h .rest
 
-  -- nothing is left to check
-  pub first-done : firstOf f i n ≡ goal → n ≡ 0 → Fine ≡ goal
+  -- all passed
+  pub search-end : {i : ℕ} → Searching f m i → m < i → Fine ≡ firstOf f 1 m
   unfolding firstOf
-  first-done e z = sym (run-none _andThen_ Fine f i n z) ∙ e
+  search-end {i} h l = sym (run-none _andThen_ Fine f i (m + 1 - i) (omega arith)) ∙ h .rest
 
 -- every check of a run that is fine is fine
 pub first-fine : (f : ℕ → Verdict) (i n : ℕ) → firstOf f i n ≡ Fine → (j : ℕ) → i ≤ j → j < i + n → f j ≡ Fine

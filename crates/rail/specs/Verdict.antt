@@ -5,8 +5,7 @@
 --   firstOf f i n             the first refusal of the checks f i, f (i + 1), .., n of them
 -- Assumes nothing.
 use Prim.Native.Nat.{ℕ}
-use mathlib.Core.Bool.{Bool, true, false}
-use lib.Dec.{ltb, eqb}
+use Rattle.lists.specs.Choice.{ifBelow, ifSame}
 use Rattle.lists.specs.Run.{runOf}
 use Rattle.rail.specs.declared.Refusal.{Refusal}
 use Rattle.rail.specs.declared.Verdict.{Verdict}
@@ -14,16 +13,11 @@ use Rattle.rail.specs.declared.Verdict.the-variants.{Fine, Refused}
 
 infixr 20 _andThen_
 infix 30 refuse_when_below_ refuse_unless_is_
--- a if the test holds, else b
-abbrev pub choose : Bool → Verdict → Verdict → Verdict
-choose true v w = v
-choose false v w = w
-
 unfoldable pub refuse_when_below_ : Refusal → ℕ → ℕ → Verdict
-refuse r when a below b = choose (ltb a b) (Refused r) Fine
+refuse r when a below b = ifBelow a b (Refused r) Fine
 
 unfoldable pub refuse_unless_is_ : Refusal → ℕ → ℕ → Verdict
-refuse r unless a is b = choose (eqb a b) Fine (Refused r)
+refuse r unless a is b = ifSame a b Fine (Refused r)
 
 unfoldable pub _andThen_ : Verdict → Verdict → Verdict
 Fine andThen w = w

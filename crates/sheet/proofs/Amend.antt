@@ -1,0 +1,81 @@
+-- One source delay replaced in an accepted sheet: the sheet stays accepted, and every other field is as it was.
+-- Assumes nothing.
+use mathlib.Core.Path.{_≡_, refl, sym, ap, _∙_}
+use mathlib.Core.List.{List}
+use mathlib.Core.Logic.{_⊎_, inl, inr, ⊎-elim}
+use Prim.Native.Nat.{ℕ, _+_, _-_, _*_, _≤_, _<_}
+use native.Mathlib.Decide.{ℕ-discrete}
+use native.Mathlib.Omega.{arith}
+use lib.ListN.{length}
+use Rattle.lists.proofs.Choice.{same-yes, same-no}
+use Rattle.lists.proofs.Order.{lt-or-ge}
+use Rattle.bits.specs.Field.{fieldOf, Apart}
+use Rattle.bits.proofs.Puts.{put-apart}
+use Rattle.sheet.specs.Format.{trainsOf, entry, bitsOf, bytesOf, pairsOf}
+use Rattle.sheet.specs.Numbers.{Numbers, numbersOf}
+use Rattle.sheet.specs.Checks.{earliestOf}
+use Rattle.sheet.specs.Accepted.{InRange, Accepted, SameNumbers, withDelay, DelayReplaced}
+use Rattle.sheet.proofs.Lengths.{layout}
+use Rattle.sheet.proofs.Meaning.{in-range-same}
+
+-- fields of two columns of the trains, or of two trains, have no bit in common
+train-fields-apart : (a v b w i j : ℕ) → (a + v ≤ b) × (b + w ≤ a + 33) → Apart (a + 33 * i) v (b + 33 * j) w
+train-fields-apart a v b w i j h =
+    ⊎-elim (λ (l : j < i). inr (omega arith)) (λ (l : i ≤ j). inl (omega arith)) (lt-or-ge j i)
+
+module _ (s t : List ℕ) (i v : ℕ) (ok : Accepted s) (least : 1 ≤ i) (most : i ≤ trainsOf s) (put : DelayReplaced s i v t) where
+  same-delay : (j : ℕ) → 1 ≤ j → j ≤ trainsOf s → numbersOf t .times .delay j ≡ withDelay (numbersOf s) i v .times .delay j
+  unfolding entry
+  same-delay j a b = elim (ℕ-discrete j i) [
+    | yes e ↦ rw e (put .holds) ∙ sym (same-yes _ _ e)
+    | no n ↦ put-apart put _ 11
+        (⊎-elim (λ (l : i < j). inr (omega arith)) (λ (l : j ≤ i). inl (omega arith)) (lt-or-ge i j))
+        ∙ sym (same-no _ _ n)
+  ]
+
+  pub replaced-numbers : SameNumbers (numbersOf t) (withDelay (numbersOf s) i v)
+  unfolding entry
+  replaced-numbers =
+      let trains : trainsOf t ≡ trainsOf s = put-apart put 0 7 (inl (omega arith)) in
+      record {
+        trains = trains;
+        period = put-apart put 7 11 (inl (omega arith));
+        departure = λ j a b. put-apart put _ 12 (train-fields-apart 18 12 40 11 (j - 1) (i - 1) (omega arith));
+        driving = λ j a b. put-apart put _ 10 (train-fields-apart 30 10 40 11 (j - 1) (i - 1) (omega arith));
+        delay = same-delay;
+        passengers = λ f a b. rw trains (put-apart put _ 14 (inr (omega arith)));
+      }
+
+  in-range-with-delay : v ≤ 1440 → InRange (withDelay (numbersOf s) i v)
+  unfolding earliestOf
+  in-range-with-delay l =
+      let r = ok .numbers in
+      record {
+        trains-least = r .trains-least;
+        trains-most = r .trains-most;
+        period-least = r .period-least;
+        period-most = r .period-most;
+        train = λ j a b.
+            let q = r .train j a b in
+            record {
+              departure = q .departure;
+              driving = q .driving;
+              delay = elim (ℕ-discrete j i) [
+                | yes e ↦ rw (same-yes v (numbersOf s .times .delay j) e) l
+                | no n ↦ rw (same-no v (numbersOf s .times .delay j) n) (q .delay)
+              ];
+              slack = q .slack;
+            };
+        passengers = r .passengers;
+      }
+
+  -- a source delay of 0 to 1,440 leaves the sheet accepted
+  pub replaced-accepted : v ≤ 1440 → Accepted t
+  replaced-accepted l =
+      let same = replaced-numbers in
+      let trains : trainsOf t ≡ trainsOf s = same .trains in
+      record {
+        long = put .long ∙ ok .long ∙ ap bytesOf (sym trains);
+        numbers = in-range-same (numbersOf t) (withDelay (numbersOf s) i v) same (in-range-with-delay l);
+        filling = rw (trains, put .long) (put-apart put _ _ (inr (omega (arith, layout (trainsOf s)))) ∙ ok .filling);
+      }

@@ -1,0 +1,161 @@
+-- A verdict that is fine, in plain facts: the chain of checks and `Accepted` say the same.
+-- Assumes nothing.
+use mathlib.Core.Path.{_≡_, refl, sym, ap, _∙_}
+use mathlib.Core.List.{List}
+use Prim.Native.Nat.{ℕ, _+_, _≤_, _<_, zero-le}
+use native.Mathlib.Omega.{arith}
+use lib.ListN.{length}
+use Rattle.rail.specs.declared.Verdict.the-variants.{Fine}
+use Rattle.rail.proofs.Checks.{then-fine, fine-then, not-below, fine-not-below, first-fine, fine-first}
+use Rattle.sheet.specs.Format.{trainsOf, periodOf, pairsOf, bitsOf, bytesOf}
+use Rattle.sheet.specs.Numbers.{Times, Numbers, numbersOf}
+use Rattle.sheet.specs.Checks.{rangesVerdict, trainVerdict, passengersVerdict, numbersVerdict, headVerdict, bodyVerdict, sheetVerdict}
+use Rattle.sheet.specs.Accepted.{TrainInRange, InRange, Accepted}
+use Rattle.sheet.proofs.Lengths.{layout, bytes-bits}
+
+-- ---- the numbers
+
+pub record Ranges (m T : ℕ) : Type 0 where
+  pub trains-least : 1 ≤ m
+  pub trains-most : m ≤ 64
+  pub period-least : 1 ≤ T
+  pub period-most : T ≤ 1440
+
+pub ranges-of-fine : (m T : ℕ) → rangesVerdict m T ≡ Fine → Ranges m T
+unfolding rangesVerdict
+ranges-of-fine m T e =
+    let a = then-fine _ _ e in
+    let b = then-fine _ _ (a .1) in
+    let c = then-fine _ _ (b .1) in
+    let d = then-fine _ _ (c .1) in
+    record {
+      trains-least = not-below _ _ _ (a .0);
+      trains-most = not-below _ _ _ (b .0);
+      period-least = not-below _ _ _ (c .0);
+      period-most = not-below _ _ _ (d .0);
+    }
+
+pub fine-of-ranges : (m T : ℕ) → Ranges m T → rangesVerdict m T ≡ Fine
+unfolding rangesVerdict
+fine-of-ranges m T r =
+    fine-then (fine-not-below _ _ _ (r .trains-least))
+    (fine-then (fine-not-below _ _ _ (r .trains-most))
+    (fine-then (fine-not-below _ _ _ (r .period-least))
+    (fine-then (fine-not-below _ _ _ (r .period-most))
+    refl)))
+
+train-of-fine : (x : Times) (i : ℕ) → trainVerdict x i ≡ Fine → TrainInRange x i
+unfolding trainVerdict
+train-of-fine x i e =
+    let a = then-fine _ _ e in
+    let b = then-fine _ _ (a .1) in
+    let c = then-fine _ _ (b .1) in
+    let d = then-fine _ _ (c .1) in
+    record {
+      departure = not-below _ _ _ (a .0);
+      driving = not-below _ _ _ (b .0);
+      delay = not-below _ _ _ (c .0);
+      slack = not-below _ _ _ (d .0);
+    }
+
+fine-of-train : (x : Times) (i : ℕ) → TrainInRange x i → trainVerdict x i ≡ Fine
+unfolding trainVerdict
+fine-of-train x i r =
+    fine-then (fine-not-below _ _ _ (r .departure))
+    (fine-then (fine-not-below _ _ _ (r .driving))
+    (fine-then (fine-not-below _ _ _ (r .delay))
+    (fine-then (fine-not-below _ _ _ (r .slack))
+    refl)))
+
+passengers-of-fine : (p : ℕ → ℕ) (f : ℕ) → passengersVerdict p f ≡ Fine → p f ≤ 10000
+unfolding passengersVerdict
+passengers-of-fine p f e = not-below _ _ _ (then-fine _ _ e .0)
+
+fine-of-passengers : (p : ℕ → ℕ) (f : ℕ) → p f ≤ 10000 → passengersVerdict p f ≡ Fine
+unfolding passengersVerdict
+fine-of-passengers p f l = fine-then (fine-not-below _ _ _ l) refl
+
+module _ (N : Numbers) where
+  pub in-range-of-fine : Ranges (N .trains) (N .period) → numbersVerdict (N .trains) (N .times) (N .passengers) ≡ Fine → InRange N
+  unfolding numbersVerdict
+  in-range-of-fine r e =
+      let both = then-fine _ _ e in
+      record {
+        trains-least = r .trains-least;
+        trains-most = r .trains-most;
+        period-least = r .period-least;
+        period-most = r .period-most;
+        train = λ i a b. train-of-fine (N .times) i (first-fine _ 1 _ (both .0) i a (omega arith));
+        passengers = λ f a b. passengers-of-fine (N .passengers) f (first-fine _ 1 _ (both .1) f a (omega arith));
+      }
+
+  pub ranges-of-in-range : InRange N → Ranges (N .trains) (N .period)
+  ranges-of-in-range h =
+      record {
+        trains-least = h .trains-least;
+        trains-most = h .trains-most;
+        period-least = h .period-least;
+        period-most = h .period-most;
+      }
+
+  pub fine-of-in-range : InRange N → numbersVerdict (N .trains) (N .times) (N .passengers) ≡ Fine
+  unfolding numbersVerdict
+  fine-of-in-range h =
+      fine-then (fine-first _ 1 _ (λ i a b. fine-of-train (N .times) i (h .train i a (omega arith))))
+      (fine-first _ 1 _ (λ f a b. fine-of-passengers (N .passengers) f (h .passengers f a (omega arith))))
+
+-- ---- the sheet
+
+pub record Headed (s : List ℕ) : Type 0 where
+  pub room : 3 ≤ length s
+  pub ranges : Ranges (trainsOf s) (periodOf s)
+  pub long : length s ≡ bytesOf (trainsOf s)
+
+pub headed-of-fine : (s : List ℕ) → headVerdict s ≡ Fine → Headed s
+unfolding headVerdict
+headed-of-fine s e =
+    let a = then-fine _ _ e in
+    let b = then-fine _ _ (a .1) in
+    let c = then-fine _ _ (b .1) in
+    let d = then-fine _ _ (c .1) in
+    record {
+      room = not-below _ _ _ (a .0);
+      ranges = ranges-of-fine _ _ (b .0);
+      long = omega (arith, not-below _ _ _ (c .0), not-below _ _ _ (d .0));
+    }
+
+fine-of-headed : (s : List ℕ) → Headed s → headVerdict s ≡ Fine
+unfolding headVerdict
+fine-of-headed s h =
+    let l = h .long in
+    fine-then (fine-not-below _ _ _ (h .room))
+    (fine-then (fine-of-ranges _ _ (h .ranges))
+    (fine-then (fine-not-below _ _ _ (omega arith))
+    (fine-then (fine-not-below _ _ _ (omega arith))
+    refl)))
+
+-- accepted exactly when the chain of checks finds nothing
+pub accepted-of-fine : (s : List ℕ) → sheetVerdict s ≡ Fine → Accepted s
+unfolding sheetVerdict bodyVerdict
+accepted-of-fine s e =
+    let a = then-fine _ _ e in
+    let b = then-fine _ _ (a .1) in
+    let c = then-fine _ _ (b .1) in
+    let h = headed-of-fine s (a .0) in
+    record {
+      long = h .long;
+      numbers = in-range-of-fine (numbersOf s) (h .ranges) (b .0);
+      filling = omega (arith, not-below _ _ _ (c .0));
+    }
+
+pub fine-of-accepted : (s : List ℕ) → Accepted s → sheetVerdict s ≡ Fine
+unfolding sheetVerdict bodyVerdict
+fine-of-accepted s h =
+    let b = bytes-bits (trainsOf s) in
+    let l = h .long in
+    fine-then
+    (fine-of-headed s
+    (record { room = omega (arith, layout (trainsOf s)); ranges = ranges-of-in-range (numbersOf s) (h .numbers); long = l }))
+    (fine-then (fine-of-in-range (numbersOf s) (h .numbers))
+    (fine-then (fine-not-below _ _ _ (rw (h .filling) zero-le))
+    refl))

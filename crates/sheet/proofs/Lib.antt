@@ -1,0 +1,5 @@
+pub mod Lengths
+pub mod Pairs
+pub mod Facts
+pub mod Meaning
+pub mod Amend

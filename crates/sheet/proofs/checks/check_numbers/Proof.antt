@@ -1,0 +1,53 @@
+-- `checks::check_numbers` meets its contract: the trains' refusal if there is one, else the passengers' verdict.
+-- Assumes nothing.
+use borrow.Author.Needs.{needs}
+use mathlib.Core.Path.{sym, ap, _∙_}
+use Prim.Native.Nat.{ℕ}
+use native.Mathlib.Omega.{arith}
+use Rattle.rail.specs.Verdict.{firstOf}
+use Rattle.rail.proofs.Checks.{then-stop, then-pass}
+use Rattle.sheet.specs.Checks.{passengersVerdict, numbersVerdict}
+use Rattle.sheet.proofs.Lengths.{pairs-le}
+use Rattle.sheet.proofs.checks.check_numbers.Statement.{statement}
+use Rattle.sheet.proofs.checks.check_numbers.Tie as tie
+
+check-trains-requires : tie.Need-check-trains-requires
+check-trains-requires c κs = search needs
+
+enum-told : tie.Need-enum-told
+enum-told c = search needs
+
+returns : tie.Need-returns
+unfolding numbersVerdict
+returns c = then-stop _ _ (c .enum-told .given .1) (c .before .before .check-trains .ensures)
+
+enum-told-2 : tie.Need-enum-told-2
+enum-told-2 c = search needs
+
+pairs-of-requires : tie.Need-pairs-of-requires
+pairs-of-requires c κs = search needs
+
+check-passengers-requires : tie.Need-check-passengers-requires
+check-passengers-requires c κs =
+    let start = c .before .before .before .before .before .before .before .before in
+    let room = start .pre in
+    omega (arith, c .pairs-of .ensures, room .passengers, pairs-le (start .args .m) (room .trains .most))
+
+returns-2 : tie.Need-returns-2
+unfolding numbersVerdict
+returns-2 c =
+    let told = c .before .before in
+    then-pass _ _ _ (sym (told .before .before .check-trains .ensures) ∙ told .enum-told2 .given .1)
+    (c .check-passengers .ensures ∙ ap (firstOf (passengersVerdict _) 1) (c .before .pairs-of .ensures))
+
+pub check-numbers-spec : {M : Type 1} → statement M
+check-numbers-spec =
+    tie.close
+    (tie.spec
+    check-trains-requires
+    enum-told
+    returns
+    enum-told-2
+    pairs-of-requires
+    check-passengers-requires
+    returns-2)

@@ -1,0 +1,66 @@
+-- `checks::check_passengers` meets its contract. Invariant: the fields from f on are still to be checked. Measure: how many.
+-- Assumes nothing.
+use borrow.Author.Needs.{needs}
+use mathlib.Core.Path.{refl}
+use Prim.Native.Nat.{_+_, _-_}
+use native.Mathlib.Omega.{arith}
+use Rattle.lists.specs.Run.{nth}
+use Rattle.rail.proofs.Checks.{Searching, search-first, search-next, search-stop, search-end, hit, miss}
+use Rattle.sheet.specs.Checks.{passengersVerdict}
+use Rattle.sheet.proofs.checks.check_passengers.Statement.{statement}
+use Rattle.sheet.proofs.checks.check_passengers.Tie as tie
+
+abbrev Inv-loop : tie.InvT-loop
+Inv-loop n passengers f₀ f = Searching (passengersVerdict (nth passengers)) n f
+
+abbrev μ-loop : tie.MeasureT-loop
+μ-loop n passengers f₀ f = n + 1 - f
+
+loop-holds : tie.Need-loop-holds Inv-loop μ-loop
+loop-holds c = search-first _ _
+
+sub-if1 : tie.Need-sub-if1 Inv-loop μ-loop
+sub-if1 c = search needs
+
+mul-if1 : tie.Need-mul-if1 Inv-loop μ-loop
+mul-if1 c = search needs
+
+shared-slice-read-if1 : tie.Need-shared-slice-read-if1 Inv-loop μ-loop
+shared-slice-read-if1 c = search needs
+
+cast-t9 : tie.Need-cast-t9 Inv-loop μ-loop
+cast-t9 c = search needs
+
+returns : tie.Need-returns Inv-loop μ-loop
+unfolding passengersVerdict
+returns c = search-stop _ _ (c .before .before .before .loop .inv) (omega arith) refl (hit _ _ _ _ (omega arith))
+
+add-f : tie.Need-add-f Inv-loop μ-loop
+add-f c = search needs
+
+loop-less : tie.Need-loop-less Inv-loop μ-loop
+loop-less c = search needs
+
+loop-again : tie.Need-loop-again Inv-loop μ-loop
+unfolding passengersVerdict
+loop-again c = search-next _ _ (c .before .before .before .loop .inv) (omega arith) refl (miss _ _ _ _ _ (omega arith) refl)
+
+returns-2 : tie.Need-returns-2 Inv-loop μ-loop
+returns-2 c = search-end _ _ (c .before .loop .inv) (omega arith)
+
+pub check-passengers-spec : {M : Type 1} → statement M
+check-passengers-spec =
+    tie.close
+    (tie.spec
+    Inv-loop
+    μ-loop
+    loop-holds
+    sub-if1
+    mul-if1
+    shared-slice-read-if1
+    cast-t9
+    returns
+    add-f
+    loop-less
+    loop-again
+    returns-2)

@@ -1,0 +1,63 @@
+-- `checks::check_trains` meets its contract. Invariant: the trains from i on are still to be checked. Measure: how many.
+-- Assumes nothing.
+use borrow.Author.Needs.{needs}
+use Prim.Native.Nat.{_+_, _-_}
+use native.Mathlib.Omega.{arith}
+use Rattle.rail.proofs.Checks.{Searching, search-first, search-next, search-stop, search-end}
+use Rattle.sheet.specs.Numbers.{timesIn}
+use Rattle.sheet.specs.Checks.{trainVerdict}
+use Rattle.sheet.proofs.checks.check_trains.Statement.{statement}
+use Rattle.sheet.proofs.checks.check_trains.Tie as tie
+
+abbrev Inv-loop : tie.InvT-loop
+Inv-loop m departures driving delays i₀ i = Searching (trainVerdict (timesIn departures driving delays)) m i
+
+abbrev μ-loop : tie.MeasureT-loop
+μ-loop m departures driving delays i₀ i = m + 1 - i
+
+loop-holds : tie.Need-loop-holds Inv-loop μ-loop
+loop-holds c = search-first _ _
+
+check-train-requires : tie.Need-check-train-requires Inv-loop μ-loop
+check-train-requires c κs = search needs
+
+enum-told : tie.Need-enum-told Inv-loop μ-loop
+enum-told c = search needs
+
+returns : tie.Need-returns Inv-loop μ-loop
+returns c =
+    let turn = c .before .before in
+    search-stop _ _ (turn .before .before .loop .inv) (omega arith) (c .enum-told .given .1) (turn .check-train .ensures)
+
+enum-told-2 : tie.Need-enum-told-2 Inv-loop μ-loop
+enum-told-2 c = search needs
+
+add-i : tie.Need-add-i Inv-loop μ-loop
+add-i c = search needs
+
+loop-less : tie.Need-loop-less Inv-loop μ-loop
+loop-less c = search needs
+
+loop-again : tie.Need-loop-again Inv-loop μ-loop
+loop-again c =
+    let turn = c .before .before in
+    search-next _ _ (turn .before .before .loop .inv) (omega arith) (c .enum-told2 .given .1) (turn .check-train .ensures)
+
+returns-2 : tie.Need-returns-2 Inv-loop μ-loop
+returns-2 c = search-end _ _ (c .before .loop .inv) (omega arith)
+
+pub check-trains-spec : {M : Type 1} → statement M
+check-trains-spec =
+    tie.close
+    (tie.spec
+    Inv-loop
+    μ-loop
+    loop-holds
+    check-train-requires
+    enum-told
+    returns
+    enum-told-2
+    add-i
+    loop-less
+    loop-again
+    returns-2)

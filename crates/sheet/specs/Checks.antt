@@ -1,0 +1,79 @@
+-- The checks of a sheet and of its numbers. Document 01, "Numbers of refusal, in the order of checking".
+--   rangesVerdict m T            2 and 3
+--   trainVerdict x i             5, 13, 6, 7 for train i; a field of 10 bits is never 13
+--   passengersVerdict p f        8 for passenger field f
+--   numbersVerdict m x p         train by train, then field by field
+--   sheetVerdict s               all of a sheet
+-- Assumes nothing.
+use Prim.Native.Nat.{ℕ, _+_, _-_, _≤_}
+use mathlib.Core.List.{List}
+use lib.ListN.{length}
+use Rattle.lists.specs.Choice.{ifBelow}
+use Rattle.rail.specs.declared.Refusal.the-variants.{NoHead, TrainCount, Period, TooShort, TooLong, Departure, Driving, SourceDelay, Slack, Passengers, Filling}
+use Rattle.rail.specs.declared.Verdict.{Verdict}
+use Rattle.rail.specs.declared.Verdict.the-variants.{Fine}
+use Rattle.rail.specs.Refusal.{train}
+use Rattle.rail.specs.Verdict.{refuse_when_below_, _andThen_, firstOf}
+use Rattle.sheet.specs.Format.{trainsOf, periodOf, passengersOf, pairsOf, bytesOf, fillingOf}
+use Rattle.sheet.specs.Numbers.{Times, timesOf}
+
+-- m is 0 or over 64; T is 0 or over 1,440
+unfoldable pub rangesVerdict : ℕ → ℕ → Verdict
+rangesVerdict m T =
+    (refuse TrainCount when m below 1)
+    andThen (refuse TrainCount when 64 below m)
+    andThen (refuse Period when T below 1)
+    andThen (refuse Period when 1440 below T)
+    andThen Fine
+
+-- the planned arrival of the train before train i; train 1 has none before it, and 0 stands there
+unfoldable pub earliestOf : Times → ℕ → ℕ
+earliestOf x i = ifBelow 1 i (x .departure (i - 1) + x .driving (i - 1)) 0
+
+-- departure over 2,879; driving time over 1,023; source delay over 1,440; slack under 0
+unfoldable pub trainVerdict : Times → ℕ → Verdict
+trainVerdict x i =
+    (refuse (Departure (train i)) when 2879 below x .departure i)
+    andThen (refuse (Driving (train i)) when 1023 below x .driving i)
+    andThen (refuse (SourceDelay (train i)) when 1440 below x .delay i)
+    andThen (refuse (Slack (train i)) when x .departure i below earliestOf x i)
+    andThen Fine
+
+-- passengers over 10,000
+unfoldable pub passengersVerdict : (ℕ → ℕ) → ℕ → Verdict
+passengersVerdict p f = (refuse (Passengers f) when 10000 below p f) andThen Fine
+
+unfoldable pub numbersVerdict : ℕ → Times → (ℕ → ℕ) → Verdict
+numbersVerdict m x p = firstOf (trainVerdict x) 1 m andThen firstOf (passengersVerdict p) 1 (pairsOf m)
+
+-- sheet under 3 bytes; m; T; sheet shorter, longer than m demands
+unfoldable pub headVerdict : List ℕ → Verdict
+headVerdict s =
+    (refuse NoHead when length s below 3)
+    andThen rangesVerdict (trainsOf s) (periodOf s)
+    andThen (refuse TooShort when length s below bytesOf (trainsOf s))
+    andThen (refuse TooLong when bytesOf (trainsOf s) below length s)
+    andThen Fine
+
+-- the numbers; a filling bit is 1
+unfoldable pub bodyVerdict : List ℕ → Verdict
+bodyVerdict s =
+    numbersVerdict (trainsOf s) (timesOf s) (passengersOf s)
+    andThen (refuse Filling when 0 below fillingOf s)
+    andThen Fine
+
+unfoldable pub sheetVerdict : List ℕ → Verdict
+sheetVerdict s = headVerdict s andThen bodyVerdict s
+
+-- what the checks of trains 1 to m read stands in the lists d, r and y of departures, driving times and delays
+pub record TrainRoom (m : ℕ) (d r y : List ℕ) : Type 0 where
+  pub least : 1 ≤ m
+  pub most : m ≤ 64
+  pub departures : m ≤ length d
+  pub driving : m ≤ length r
+  pub delays : m ≤ length y
+
+-- and what the checks of the passengers read in the list p
+pub record Room (m : ℕ) (d r y p : List ℕ) : Type 0 where
+  pub trains : TrainRoom m d r y
+  pub passengers : pairsOf m ≤ length p

@@ -1,0 +1,5 @@
+pub mod Format
+pub mod Pairs
+pub mod Numbers
+pub mod Checks
+pub mod Accepted

@@ -1,0 +1,115 @@
+// The checks on a line's numbers, in the order of document 01. Reading and writing share them.
+ghost use mathlib.Core.Path.{_≡_};
+ghost use Prim.Native.Nat.{_≤_};
+ghost use lib.ListN.{length};
+ghost use Rattle.lists.specs.Run.{nth};
+ghost use Rattle.rail.specs.Verdict.{firstOf};
+ghost use Rattle.sheet.specs.Numbers.{timesIn};
+ghost use Rattle.sheet.specs.Checks.{rangesVerdict, earliestOf, trainVerdict, passengersVerdict, numbersVerdict, TrainRoom, Room};
+use crate::format::pairs_of;
+use rail::Refusal;
+use rail::Train;
+use rail::Verdict;
+
+// The number of trains and the period.
+pub fn check_ranges(m: u32, period: u32) -> Verdict
+    ensures { λ r. ⌜ r ≡ rangesVerdict m period ⌝ }
+{
+    if m < 1 {
+        return Verdict::Refused(Refusal::TrainCount);
+    }
+    if 64 < m {
+        return Verdict::Refused(Refusal::TrainCount);
+    }
+    if period < 1 {
+        return Verdict::Refused(Refusal::Period);
+    }
+    if 1440 < period {
+        return Verdict::Refused(Refusal::Period);
+    }
+    Verdict::Fine
+}
+
+// The earliest minute at which a train may leave: when its feeder is planned to arrive. Train 1 has none and may leave at 0.
+fn earliest(train: Train, departures: &[u32], driving: &[u32], delays: &[u32]) -> u64
+    requires { ⌜ TrainRoom (train .0) (now departures) (now driving) (now delays) ⌝ }
+    ensures { λ r. ⌜ r ≡ earliestOf (timesIn (now (departures .entry)) (now (driving .entry)) (now (delays .entry))) (train .0) ⌝ }
+{
+    if 1 < train.0 {
+        let k = train.leaves().feeder().index();
+        departures[k] as u64 + driving[k] as u64
+    } else {
+        0
+    }
+}
+
+// One train: departure, driving time, source delay, slack.
+fn check_train(train: Train, departures: &[u32], driving: &[u32], delays: &[u32]) -> Verdict
+    requires { ⌜ TrainRoom (train .0) (now departures) (now driving) (now delays) ⌝ }
+    ensures { λ r. ⌜ r ≡ trainVerdict (timesIn (now (departures .entry)) (now (driving .entry)) (now (delays .entry))) (train .0) ⌝ }
+{
+    let k = train.index();
+    if 2879 < departures[k] {
+        return Verdict::Refused(Refusal::Departure(train));
+    }
+    if 1023 < driving[k] {
+        return Verdict::Refused(Refusal::Driving(train));
+    }
+    if 1440 < delays[k] {
+        return Verdict::Refused(Refusal::SourceDelay(train));
+    }
+    let departure = departures[k] as u64;
+    if departure < earliest(train, departures, driving, delays) {
+        return Verdict::Refused(Refusal::Slack(train));
+    }
+    Verdict::Fine
+}
+
+// Trains 1 to `m`, one after the other.
+fn check_trains(m: u32, departures: &[u32], driving: &[u32], delays: &[u32]) -> Verdict
+    requires { ⌜ TrainRoom m (now departures) (now driving) (now delays) ⌝ }
+    ensures { λ r. ⌜ r ≡ firstOf (trainVerdict (timesIn (now (departures .entry)) (now (driving .entry)) (now (delays .entry)))) 1 m ⌝ }
+{
+    let mut i = 1;
+    while i <= m {
+        let verdict = check_train(Train(i), departures, driving, delays);
+        if let Verdict::Refused(_) = verdict {
+            return verdict;
+        }
+        i += 1;
+    }
+    Verdict::Fine
+}
+
+// Passenger fields 1 to `n`.
+fn check_passengers(n: usize, passengers: &[u32]) -> Verdict
+    requires { ⌜ (n ≤ 2080) × (n ≤ length (now passengers)) ⌝ }
+    ensures { λ r. ⌜ r ≡ firstOf (passengersVerdict (nth (now (passengers .entry)))) 1 n ⌝ }
+{
+    let mut f = 1;
+    while f <= n {
+        if 10000 < passengers[f - 1] {
+            return Verdict::Refused(Refusal::Passengers(f as u32));
+        }
+        f += 1;
+    }
+    Verdict::Fine
+}
+
+// All trains, then all passenger fields.
+pub fn check_numbers(
+    m: u32,
+    departures: &[u32],
+    driving: &[u32],
+    delays: &[u32],
+    passengers: &[u32],
+) -> Verdict
+    requires { ⌜ Room m (now departures) (now driving) (now delays) (now passengers) ⌝ }
+    ensures { λ r. ⌜ r ≡ numbersVerdict m (timesIn (now (departures .entry)) (now (driving .entry)) (now (delays .entry))) (nth (now (passengers .entry))) ⌝ }
+{
+    let trains = check_trains(m, departures, driving, delays);
+    if let Verdict::Refused(_) = trains {
+        return trains;
+    }
+    check_passengers(pairs_of(m as usize), passengers)
+}
