@@ -1,15 +1,17 @@
 -- Laws of a list that a loop fills from its first place on: the start, one place more, and the list once all are filled.
 -- Assumes nothing.
-use mathlib.Core.Path.{_≡_, refl, sym, subst, _∙_}
+use mathlib.Core.Path.{_≡_, refl, sym, ap, subst, _∙_}
 use mathlib.Core.List.{List}
 use mathlib.Core.Logic.{⊎-elim}
-use Prim.Native.Nat.{ℕ, _+_, _≤_, _<_}
+use Prim.Native.Nat.{ℕ, _+_, _-_, _≤_, _<_}
 use native.Mathlib.Nat.{not-suc-le-zero}
 use native.Mathlib.Omega.{arith}
-use lib.ListN.{length, getD, set, length-set, replicate, length-replicate, getD-replicate}
+use lib.ListN.{length, getD, set, length-set, replicate, length-replicate, getD-replicate, List·getD-eq-default}
 use lib.Seq.{ext-getD, getD-set-same, getD-set-other}
+use Rattle.lists.specs.Run.{padded}
 use Rattle.lists.specs.Filled.{Filled}
 use Rattle.lists.proofs.Order.{lt-or-ge}
+use Rattle.lists.proofs.Run.{padded-ext}
 
 module _ {A : Type 0} (d : A) (f : ℕ → A) where
   pub filled-none : (xs : List A) → Filled d f 0 xs xs
@@ -43,3 +45,16 @@ pub filled-value : {A : Type 0} (d v : A) {n : ℕ} {old new : List A} → Fille
 filled-value d v {old = old} h l =
     filled-all d _ (replicate (length old) v) h l (length-replicate (length old) v)
     (λ k b. getD-replicate (length old) k v d (omega (arith, length-replicate (length old) v)))
+
+-- filled over zeros
+pub filled-padded : (f : ℕ → ℕ) (size n : ℕ) {new : List ℕ} → Filled 0 f n (replicate size 0) new
+    → new ≡ padded size n (λ (i : ℕ). f (i - 1))
+filled-padded f size n {new} h =
+    padded-ext size n (λ (i : ℕ). f (i - 1)) new (h .long ∙ length-replicate size 0)
+    (λ k a b. let e : k ≡ k + 1 - 1 = omega arith in h .filled k a ∙ ap f e)
+    (λ k a.
+    h .others k a
+    ∙ ⊎-elim
+    (λ (b : k < size). getD-replicate size k 0 0 b)
+    (λ (b : size ≤ k). List·getD-eq-default (replicate size 0) 0 (omega (arith, length-replicate {A = ℕ} size 0)))
+    (lt-or-ge k size))

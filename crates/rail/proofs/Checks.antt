@@ -14,11 +14,11 @@ use Rattle.lists.proofs.Run.{run-next, run-none}
 use Rattle.rail.specs.declared.Refusal.{Refusal}
 use Rattle.rail.specs.declared.Verdict.{Verdict}
 use Rattle.rail.specs.declared.Verdict.the-variants.{Fine, Refused}
-use Rattle.rail.specs.Verdict.{refuse_when_below_, refuse_unless_is_, _andThen_, firstOf}
+use Rattle.rail.specs.Verdict.{refuse_when_below_, refuse_unless_is_, _andThen_, firstOf, ifFine}
 
 -- ---- a check and those that follow
 
-refused-not-fine : {A : Type 0} {r : Refusal} → Refused r ≡ Fine → A
+pub refused-not-fine : {A : Type 0} {r : Refusal} → Refused r ≡ Fine → A
 refused-not-fine e = let z : _≡_ {A = ℕ} 0 1 = cc in let no-way : ⊥ = omega arith in absurd no-way
 
 -- x refused, so v does
@@ -140,3 +140,11 @@ unfolding firstOf runOf
 fine-first f i zero h = refl
 fine-first f i (suc n) h =
     fine-then (h i (omega arith) (omega arith)) (fine-first f (i + 1) n (λ j a b. h j (omega arith) (omega arith)))
+
+-- ---- what depends on a verdict
+
+pub if-fine : {A : Type 0} (v : Verdict) (x y : A) → Fine ≡ v → x ≡ ifFine v x y
+if-fine v x y e = ap (λ (u : Verdict). ifFine u x y) e
+
+pub if-refused : {A : Type 0} (v : Verdict) (x y : A) {r : Refusal} → Refused r ≡ v → y ≡ ifFine v x y
+if-refused v x y e = ap (λ (u : Verdict). ifFine u x y) e

@@ -3,11 +3,14 @@
 --   refuse r unless a is b    refused for r where a differs from b, else fine
 --   v andThen w               what v says if it refuses, else what w says
 --   firstOf f i n             the first refusal of the checks f i, f (i + 1), .., n of them
+--   ifFine v x y              x where the verdict v is fine, y where it refuses
+--   numberIn v, placeIn v     the paper's number and place of a verdict; 0 and 0 where it is fine
 -- Assumes nothing.
 use Prim.Native.Nat.{ℕ}
 use Rattle.lists.specs.Choice.{ifBelow, ifSame}
 use Rattle.lists.specs.Run.{runOf}
 use Rattle.rail.specs.declared.Refusal.{Refusal}
+use Rattle.rail.specs.Refusal.{numberOf, placeOf}
 use Rattle.rail.specs.declared.Verdict.{Verdict}
 use Rattle.rail.specs.declared.Verdict.the-variants.{Fine, Refused}
 
@@ -25,3 +28,15 @@ Refused r andThen w = Refused r
 
 unfoldable pub firstOf : (ℕ → Verdict) → ℕ → ℕ → Verdict
 firstOf f i n = runOf _andThen_ Fine f i n
+
+abbrev pub ifFine : {A : Type 0} → Verdict → A → A → A
+ifFine Fine x y = x
+ifFine (Refused r) x y = y
+
+abbrev pub numberIn : Verdict → ℕ
+numberIn Fine = 0
+numberIn (Refused r) = numberOf r
+
+abbrev pub placeIn : Verdict → ℕ
+placeIn Fine = 0
+placeIn (Refused r) = placeOf r

@@ -9,7 +9,7 @@ use Rattle.rail.specs.declared.Verdict.the-variants.{Fine}
 use Rattle.rail.proofs.Checks.{then-fine, fine-then, not-below, fine-not-below, first-fine, fine-first}
 use Rattle.sheet.specs.Format.{trainsOf, periodOf, pairsOf, bitsOf, bytesOf}
 use Rattle.sheet.specs.Numbers.{Times, Numbers, numbersOf}
-use Rattle.sheet.specs.Checks.{rangesVerdict, trainVerdict, passengersVerdict, numbersVerdict, headVerdict, bodyVerdict, sheetVerdict}
+use Rattle.sheet.specs.Checks.{rangesVerdict, trainVerdict, passengersVerdict, numbersVerdict, headVerdict, fillingVerdict, bodyVerdict, sheetVerdict}
 use Rattle.sheet.specs.Accepted.{TrainInRange, InRange, Accepted}
 use Rattle.sheet.proofs.Lengths.{layout, bytes-bits}
 
@@ -136,7 +136,7 @@ fine-of-headed s h =
 
 -- accepted exactly when the chain of checks finds nothing
 pub accepted-of-fine : (s : List ℕ) → sheetVerdict s ≡ Fine → Accepted s
-unfolding sheetVerdict bodyVerdict
+unfolding sheetVerdict bodyVerdict fillingVerdict
 accepted-of-fine s e =
     let a = then-fine _ _ e in
     let b = then-fine _ _ (a .1) in
@@ -149,7 +149,7 @@ accepted-of-fine s e =
     }
 
 pub fine-of-accepted : (s : List ℕ) → Accepted s → sheetVerdict s ≡ Fine
-unfolding sheetVerdict bodyVerdict
+unfolding sheetVerdict bodyVerdict fillingVerdict
 fine-of-accepted s h =
     let b = bytes-bits (trainsOf s) in
     let l = h .long in

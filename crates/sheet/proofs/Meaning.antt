@@ -11,16 +11,18 @@ use lib.ListN.{length}
 use Rattle.lists.specs.Choice.{ifBelow}
 use Rattle.lists.proofs.Choice.{below-no}
 use Rattle.lists.proofs.Order.{lt-or-ge}
+use Rattle.lists.proofs.Run.{run-same}
+use Rattle.rail.specs.declared.Verdict.{Verdict}
 use Rattle.rail.specs.declared.Verdict.the-variants.{Fine}
+use Rattle.rail.specs.Verdict.{_andThen_, firstOf}
 use Rattle.bits.specs.Field.{fieldOf, Bytes}
 use Rattle.bits.proofs.Fields.{field-none, field-split}
 use Rattle.bits.proofs.Bytes.{bytes-same}
 use Rattle.sheet.specs.Format.{trainsOf, periodOf, departureColumn, drivingColumn, delayColumn, passengerColumn, entry, departureOf, passengersOf, bitsOf, bytesOf, pairsOf, fillingOf}
 use Rattle.sheet.specs.Numbers.{Times, Numbers, numbersOf}
-use Rattle.sheet.specs.Checks.{earliestOf, sheetVerdict}
+use Rattle.sheet.specs.Checks.{earliestOf, trainVerdict, passengersVerdict, numbersVerdict}
 use Rattle.sheet.specs.Accepted.{TrainInRange, InRange, Accepted, SameNumbers, SheetOf}
 use Rattle.sheet.proofs.Lengths.{layout, bytes-bits}
-use Rattle.sheet.proofs.Facts.{accepted-of-fine, fine-of-accepted}
 
 -- ---- numbers that are the same
 
@@ -60,6 +62,28 @@ earliest-same N M h i a b =
     (ap₂ (λ (m n : ℕ). m + n) (h .departure (i - 1) (omega arith) (omega arith)) (h .driving (i - 1) (omega arith) (omega arith))))
     (λ (l : i ≤ 1). below-no _ _ l ∙ sym (below-no _ _ l))
     (lt-or-ge 1 i)
+
+train-verdict-same : (N M : Numbers) → SameNumbers N M → (i : ℕ) → 1 ≤ i → i ≤ M .trains
+    → trainVerdict (N .times) i ≡ trainVerdict (M .times) i
+unfolding trainVerdict
+train-verdict-same N M h i a b =
+    rw (h .departure i a b, h .driving i a b, h .delay i a b, earliest-same N M h i a b) refl
+
+passengers-verdict-same : (N M : Numbers) → SameNumbers N M → (f : ℕ) → 1 ≤ f → f ≤ pairsOf (M .trains)
+    → passengersVerdict (N .passengers) f ≡ passengersVerdict (M .passengers) f
+unfolding passengersVerdict
+passengers-verdict-same N M h f a b = rw (h .passengers f a b) refl
+
+-- the same numbers have the same verdict
+pub verdict-same : (N M : Numbers) → SameNumbers N M
+    → numbersVerdict (N .trains) (N .times) (N .passengers) ≡ numbersVerdict (M .trains) (M .times) (M .passengers)
+unfolding numbersVerdict firstOf
+verdict-same N M h =
+    ap (λ (m : ℕ). firstOf (trainVerdict (N .times)) 1 m andThen firstOf (passengersVerdict (N .passengers)) 1 (pairsOf m))
+    (h .trains)
+    ∙ ap₂ (λ (v w : Verdict). v andThen w)
+    (run-same _andThen_ Fine _ _ 1 (M .trains) (λ i a b. train-verdict-same N M h i a (omega arith)))
+    (run-same _andThen_ Fine _ _ 1 (pairsOf (M .trains)) (λ f a b. passengers-verdict-same N M h f a (omega arith)))
 
 pub in-range-same : (N M : Numbers) → SameNumbers N M → InRange M → InRange N
 in-range-same N M h r =

@@ -3,6 +3,8 @@
 --   trainVerdict x i             5, 13, 6, 7 for train i; a field of 10 bits is never 13
 --   passengersVerdict p f        8 for passenger field f
 --   numbersVerdict m x p         train by train, then field by field
+--   headVerdict s                1, 2, 3, then 1 or 4
+--   fillingVerdict s             9
 --   sheetVerdict s               all of a sheet
 -- Assumes nothing.
 use Prim.Native.Nat.{ℕ, _+_, _-_, _≤_}
@@ -55,12 +57,13 @@ headVerdict s =
     andThen (refuse TooLong when bytesOf (trainsOf s) below length s)
     andThen Fine
 
--- the numbers; a filling bit is 1
+-- a filling bit is 1
+unfoldable pub fillingVerdict : List ℕ → Verdict
+fillingVerdict s = (refuse Filling when 0 below fillingOf s) andThen Fine
+
+-- the numbers, then the filling bits
 unfoldable pub bodyVerdict : List ℕ → Verdict
-bodyVerdict s =
-    numbersVerdict (trainsOf s) (timesOf s) (passengersOf s)
-    andThen (refuse Filling when 0 below fillingOf s)
-    andThen Fine
+bodyVerdict s = numbersVerdict (trainsOf s) (timesOf s) (passengersOf s) andThen fillingVerdict s
 
 unfoldable pub sheetVerdict : List ℕ → Verdict
 sheetVerdict s = headVerdict s andThen bodyVerdict s

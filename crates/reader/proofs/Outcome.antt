@@ -1,0 +1,81 @@
+-- What read leaves, refused and accepted; and that its promise leaves nothing open.
+-- Assumes nothing.
+use mathlib.Core.Path.{_≡_, refl, sym, ap, _∙_}
+use mathlib.Core.List.{List}
+use lib.ListN.{length}
+use Prim.Native.Nat.{ℕ}
+use Rattle.rail.specs.declared.Refusal.{Refusal}
+use Rattle.rail.specs.declared.Verdict.the-variants.{Fine, Refused}
+use Rattle.rail.specs.Verdict.{numberIn, placeIn}
+use Rattle.rail.proofs.Checks.{then-fine, is-same, if-fine, if-refused}
+use Rattle.lists.proofs.Run.{padded-length}
+use Rattle.sheet.specs.Format.{trainsOf, periodOf}
+use Rattle.sheet.specs.Checks.{sheetVerdict}
+use Rattle.reader.specs.declared.Reading.{Reading}
+use Rattle.reader.specs.declared.Reading.the-variants.{Accepted, Refused as ReadRefused}
+use Rattle.reader.specs.declared.Columns.{Columns}
+use Rattle.reader.specs.Read.{readNumber, readPlace, readTrains, readPeriod, readingOf, Lists, lengthsVerdict, readVerdict, Read}
+use Rattle.reader.specs.Decode.{ColumnsOf, Fits, Stored}
+use Rattle.reader.proofs.Answers.{reading-refused, reading-accepted}
+
+module _ (s : List ℕ) (before : Lists) where
+  -- a refusal changes nothing
+  pub read-refused : {a : Reading} {r : Refusal} → a ≡ ReadRefused r → Refused r ≡ readVerdict s before → Read s before before a
+  read-refused p e =
+      record {
+        answer = p ∙ reading-refused _ _ _ e;
+        number = ap readNumber p ∙ ap numberIn e;
+        place = ap readPlace p ∙ ap placeIn e;
+        trains = ap readTrains p ∙ if-refused _ _ _ e;
+        period = ap readPeriod p ∙ if-refused _ _ _ e;
+        departures = if-refused _ _ _ e;
+        driving = if-refused _ _ _ e;
+        delays = if-refused _ _ _ e;
+        passengers = if-refused _ _ _ e;
+      }
+
+  -- an accepted sheet is stored
+  pub read-accepted : {a : Reading} (after : Lists) (c : Columns) → a ≡ Accepted (trainsOf s) (periodOf s)
+      → Fine ≡ readVerdict s before → ColumnsOf s c → Stored c after → Read s before after a
+  read-accepted after c p e h k =
+      record {
+        answer = p ∙ reading-accepted _ e refl refl;
+        number = ap readNumber p ∙ ap numberIn e;
+        place = ap readPlace p ∙ ap placeIn e;
+        trains = ap readTrains p ∙ if-fine _ _ _ e;
+        period = ap readPeriod p ∙ if-fine _ _ _ e;
+        departures = k .departures ∙ h .departures ∙ if-fine _ _ _ e;
+        driving = k .driving ∙ h .driving ∙ if-fine _ _ _ e;
+        delays = k .delays ∙ h .delays ∙ if-fine _ _ _ e;
+        passengers = k .passengers ∙ h .passengers ∙ if-fine _ _ _ e;
+      }
+
+-- lists of the right lengths have room for the columns
+pub columns-fit : (s : List ℕ) (L : Lists) (c : Columns)
+    → lengthsVerdict (length (L .departures)) (length (L .driving)) (length (L .delays)) (length (L .passengers)) ≡ Fine
+    → ColumnsOf s c → Fits c L
+unfolding lengthsVerdict
+columns-fit s L c e h =
+    let a = then-fine _ _ e in
+    let b = then-fine _ _ (a .1) in
+    let d = then-fine _ _ (b .1) in
+    let f = then-fine _ _ (d .1) in
+    record {
+      departures = ap length (h .departures) ∙ padded-length _ _ _ ∙ sym (is-same _ _ _ (a .0));
+      driving = ap length (h .driving) ∙ padded-length _ _ _ ∙ sym (is-same _ _ _ (b .0));
+      delays = ap length (h .delays) ∙ padded-length _ _ _ ∙ sym (is-same _ _ _ (d .0));
+      passengers = ap length (h .passengers) ∙ padded-length _ _ _ ∙ sym (is-same _ _ _ (f .0));
+    }
+
+-- two outcomes that keep read's promise are equal
+pub read-one : (s : List ℕ) (before after after′ : Lists) (a a′ : Reading) → Read s before after a → Read s before after′ a′
+    → (a ≡ a′) × (after ≡ after′)
+read-one s before after after′ a a′ g h = (
+  g .answer ∙ sym (h .answer),
+  λ i. record {
+    departures = (g .departures ∙ sym (h .departures)) i;
+    driving = (g .driving ∙ sym (h .driving)) i;
+    delays = (g .delays ∙ sym (h .delays)) i;
+    passengers = (g .passengers ∙ sym (h .passengers)) i;
+  },
+)

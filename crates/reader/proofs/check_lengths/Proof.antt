@@ -1,0 +1,40 @@
+-- `reader::check_lengths` meets its contract: each answer is the first check that refuses.
+-- Assumes nothing.
+use mathlib.Core.Path.{refl}
+use native.Mathlib.Omega.{arith}
+use Rattle.rail.proofs.Checks.{unlike, alike}
+use Rattle.reader.specs.Read.{lengthsVerdict}
+use Rattle.reader.proofs.check_lengths.Statement.{statement}
+use Rattle.reader.proofs.check_lengths.Tie as tie
+
+returns : tie.Need-returns
+unfolding lengthsVerdict
+returns c = unlike _ _ _ _ (omega arith)
+
+returns-2 : tie.Need-returns-2
+unfolding lengthsVerdict
+returns-2 c = alike _ _ _ _ _ (omega arith) (unlike _ _ _ _ (omega arith))
+
+returns-3 : tie.Need-returns-3
+unfolding lengthsVerdict
+returns-3 c = alike _ _ _ _ _ (omega arith) (alike _ _ _ _ _ (omega arith) (unlike _ _ _ _ (omega arith)))
+
+returns-4 : tie.Need-returns-4
+unfolding lengthsVerdict
+returns-4 c =
+    alike _ _ _ _ _ (omega arith)
+    (alike _ _ _ _ _ (omega arith)
+    (alike _ _ _ _ _ (omega arith)
+    (unlike _ _ _ _ (omega arith))))
+
+returns-5 : tie.Need-returns-5
+unfolding lengthsVerdict
+returns-5 c =
+    alike _ _ _ _ _ (omega arith)
+    (alike _ _ _ _ _ (omega arith)
+    (alike _ _ _ _ _ (omega arith)
+    (alike _ _ _ _ _ (omega arith)
+    refl)))
+
+pub check-lengths-spec : {M : Type 1} → statement M
+check-lengths-spec = tie.close (tie.spec returns returns-2 returns-3 returns-4 returns-5)

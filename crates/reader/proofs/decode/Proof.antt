@@ -1,0 +1,83 @@
+-- `reader::decode` meets its contract: the head's refusal if there is one, else the body's answer.
+-- Assumes nothing.
+use borrow.Author.Needs.{needs}
+use mathlib.Core.Path.{_≡_, refl, sym, ap, _∙_}
+use Prim.Native.Nat.{ℕ}
+use mathlib.Core.List.{List}
+use native.Mathlib.Omega.{arith}
+use Rattle.rail.specs.declared.Refusal.{Refusal}
+use Rattle.rail.specs.declared.Verdict.{Verdict}
+use Rattle.rail.specs.declared.Verdict.the-variants.{Fine, Refused}
+use Rattle.rail.proofs.Checks.{refused-not-fine, then-stop, then-pass}
+use Rattle.sheet.specs.Format.{trainsOf, periodOf, bytesOf}
+use Rattle.sheet.specs.Checks.{headVerdict, bodyVerdict, sheetVerdict}
+use Rattle.sheet.proofs.Facts.{Headed, headed-of-fine}
+use Rattle.reader.specs.declared.Reading.the-variants.{Accepted, Refused as ReadRefused}
+use Rattle.reader.specs.declared.Columns.{Columns}
+use Rattle.reader.specs.Read.{readingOf}
+use Rattle.reader.specs.Decode.{Head, ColumnsOf, Decoding}
+use Rattle.reader.proofs.Answers.{reading-refused, accepted-fine, refused-verdict}
+use Rattle.reader.proofs.decode.Statement.{statement}
+use Rattle.reader.proofs.decode.Tie as tie
+
+read-head-requires : tie.Need-read-head-requires
+read-head-requires c κs = search needs
+
+enum-known-head : tie.Need-enum-known-head
+enum-known-head c = search needs
+
+module _ (s : List ℕ) {m T : ℕ} (e : Accepted m T ≡ readingOf (headVerdict s) (trainsOf s) (periodOf s)) where
+  head-passed : Head s m
+  head-passed =
+      let a = accepted-fine (headVerdict s) _ _ e in
+      let h = headed-of-fine s (a .0) in
+      record {
+        trains = a .1;
+        least = omega (arith, a .1, h .ranges .trains-least);
+        most = omega (arith, a .1, h .ranges .trains-most);
+        long = h .long ∙ ap bytesOf (sym (a .1));
+      }
+
+  body-answers : readingOf (bodyVerdict s) m T ≡ readingOf (sheetVerdict s) (trainsOf s) (periodOf s)
+  unfolding sheetVerdict
+  body-answers =
+      let a = accepted-fine (headVerdict s) _ _ e in
+      rw (a .1, a .2) (ap (λ (v : Verdict). readingOf v (trainsOf s) (periodOf s)) (then-pass _ _ _ (a .0) refl))
+
+head-refused : (s : List ℕ) {r : Refusal} → ReadRefused r ≡ readingOf (headVerdict s) (trainsOf s) (periodOf s) → Refused r ≡ sheetVerdict s
+unfolding sheetVerdict
+head-refused s e = then-stop _ _ refl (sym (refused-verdict (headVerdict s) _ _ e))
+
+decode-body-requires : tie.Need-decode-body-requires
+decode-body-requires c κs = head-passed _ (sym (c .before .head .given .1) ∙ c .before .before .before .read-head .ensures)
+
+enum-known-head-2 : tie.Need-enum-known-head-2
+enum-known-head-2 c = search needs
+
+no-columns-requires : tie.Need-no-columns-requires
+no-columns-requires c κs = search needs
+
+returns : tie.Need-returns
+returns c =
+    let e = sym (c .before .before .head .given .1) ∙ c .before .before .before .before .read-head .ensures in
+    record {
+      answer = c .decode-body .ensures .0 ∙ body-answers _ e;
+      columns = λ fine. c .decode-body .ensures .1;
+    }
+
+returns-2 : tie.Need-returns-2
+returns-2 c =
+    let e = head-refused _ (sym (c .before .before .head2 .given .1) ∙ c .before .before .before .before .read-head .ensures) in
+    record { answer = reading-refused _ _ _ e; columns = λ fine. refused-not-fine (e ∙ fine) }
+
+pub decode-spec : {M : Type 1} → statement M
+decode-spec =
+    tie.close
+    (tie.spec
+    read-head-requires
+    enum-known-head
+    decode-body-requires
+    enum-known-head-2
+    no-columns-requires
+    returns
+    returns-2)

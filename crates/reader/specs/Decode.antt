@@ -1,0 +1,53 @@
+-- What the steps of reading a sheet need and leave; read's own promise stands in Read.
+-- Assumes nothing.
+use Prim.Native.Nat.{ℕ, _+_, _*_, _≤_, _<_}
+use mathlib.Core.Path.{_≡_}
+use mathlib.Core.List.{List}
+use lib.ListN.{length}
+use Rattle.bits.specs.Field.{Within}
+use Rattle.lists.specs.Run.{padded}
+use Rattle.rail.specs.declared.Verdict.the-variants.{Fine}
+use Rattle.sheet.specs.declared.format.Column.{Column}
+use Rattle.sheet.specs.Format.{trainsOf, periodOf, departureOf, drivingOf, delayOf, passengersOf, bytesOf, pairsOf}
+use Rattle.sheet.specs.Checks.{sheetVerdict}
+use Rattle.reader.specs.declared.Columns.{Columns}
+use Rattle.reader.specs.declared.Decoded.{Decoded}
+use Rattle.reader.specs.Read.{Lists, readingOf}
+
+-- n places of the column lie in the sheet, and a list of `size` has room for them
+pub record ColumnRoom (s : List ℕ) (c : Column) (n size : ℕ) : Type 0 where
+  pub room : n ≤ size
+  pub within : (k : ℕ) → k < n → Within s (c .first + c .step * k) (c .width)
+
+-- the sheet has m trains and the length that m demands
+pub record Head (s : List ℕ) (m : ℕ) : Type 0 where
+  pub trains : m ≡ trainsOf s
+  pub least : 1 ≤ m
+  pub most : m ≤ 64
+  pub long : length s ≡ bytesOf m
+
+-- the columns are those of the sheet, fields first, the rest 0
+pub record ColumnsOf (s : List ℕ) (c : Columns) : Type 0 where
+  pub departures : c .departures ≡ padded 64 (trainsOf s) (departureOf s)
+  pub driving : c .driving ≡ padded 64 (trainsOf s) (drivingOf s)
+  pub delays : c .delays ≡ padded 64 (trainsOf s) (delayOf s)
+  pub passengers : c .passengers ≡ padded 2080 (pairsOf (trainsOf s)) (passengersOf s)
+
+-- the sheet's verdict, and its columns where it is accepted
+pub record Decoding (s : List ℕ) (d : Decoded) : Type 0 where
+  pub answer : d .answer ≡ readingOf (sheetVerdict s) (trainsOf s) (periodOf s)
+  pub columns : sheetVerdict s ≡ Fine → ColumnsOf s (d .columns)
+
+-- the lists are as long as the columns
+pub record Fits (c : Columns) (L : Lists) : Type 0 where
+  pub departures : length (c .departures) ≡ length (L .departures)
+  pub driving : length (c .driving) ≡ length (L .driving)
+  pub delays : length (c .delays) ≡ length (L .delays)
+  pub passengers : length (c .passengers) ≡ length (L .passengers)
+
+-- the lists are the columns
+pub record Stored (c : Columns) (L : Lists) : Type 0 where
+  pub departures : L .departures ≡ c .departures
+  pub driving : L .driving ≡ c .driving
+  pub delays : L .delays ≡ c .delays
+  pub passengers : L .passengers ≡ c .passengers

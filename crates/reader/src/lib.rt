@@ -1,0 +1,295 @@
+// Read: a sheet into four lent lists, refused by number. Each field of the sheet is read once.
+// `read` has no `requires`: any bytes and any lists get an answer.
+ghost use mathlib.Core.Path.{_≡_};
+ghost use Prim.Native.Nat.{_-_, _≤_};
+ghost use lib.ListN.{length};
+ghost use Rattle.lists.specs.Run.{padded};
+ghost use Rattle.lists.specs.Filled.{Filled};
+ghost use Rattle.sheet.specs.Format.{trainsOf, periodOf, entry, passengerColumn, pairsOf};
+ghost use Rattle.sheet.specs.Checks.{headVerdict, fillingVerdict, bodyVerdict};
+ghost use Rattle.reader.specs.Read.{readNumber, readPlace, readTrains, readPeriod, readingOf, lengthsVerdict, lists, Read};
+ghost use Rattle.reader.specs.Decode.{ColumnRoom, Head, ColumnsOf, Decoding, Fits, Stored};
+use bits::field;
+use lists::copy_u32;
+use rail::Refusal;
+use rail::Verdict;
+use sheet::checks::check_numbers;
+use sheet::checks::check_ranges;
+use sheet::format::Column;
+use sheet::format::bits_of;
+use sheet::format::bytes_of;
+use sheet::format::pairs_of;
+
+// What read answers: m and T, or why not.
+pub enum Reading {
+    Accepted(u32, u32),
+    Refused(Refusal),
+}
+
+impl Reading {
+    pub fn number(self) -> u32
+        ensures { λ r. ⌜ r ≡ readNumber self ⌝ }
+    {
+        match self {
+            Reading::Accepted(_, _) => 0,
+            Reading::Refused(refusal) => refusal.number(),
+        }
+    }
+
+    pub fn place(self) -> u32
+        ensures { λ r. ⌜ r ≡ readPlace self ⌝ }
+    {
+        match self {
+            Reading::Accepted(_, _) => 0,
+            Reading::Refused(refusal) => refusal.place(),
+        }
+    }
+
+    pub fn trains(self) -> u32
+        ensures { λ r. ⌜ r ≡ readTrains self ⌝ }
+    {
+        match self {
+            Reading::Accepted(m, _) => m,
+            Reading::Refused(_) => 0,
+        }
+    }
+
+    pub fn period(self) -> u32
+        ensures { λ r. ⌜ r ≡ readPeriod self ⌝ }
+    {
+        match self {
+            Reading::Accepted(_, period) => period,
+            Reading::Refused(_) => 0,
+        }
+    }
+}
+
+// The fields of a sheet, those of the trains and those of the passengers first, the rest 0.
+pub struct Columns {
+    pub departures: [u32; 64],
+    pub driving: [u32; 64],
+    pub delays: [u32; 64],
+    pub passengers: [u32; 2080],
+}
+
+// A sheet taken apart. The columns count only where the answer accepts.
+pub struct Decoded {
+    pub answer: Reading,
+    pub columns: Columns,
+}
+
+// Under 3 bytes; m and T; shorter or longer than m demands.
+fn read_head(sheet: &[u8]) -> Reading
+    ensures { λ r. ⌜ r ≡ readingOf (headVerdict (now (sheet .entry))) (trainsOf (now (sheet .entry))) (periodOf (now (sheet .entry))) ⌝ }
+{
+    if sheet.len() < 3 {
+        return Reading::Refused(Refusal::NoHead);
+    }
+    let m = field(sheet, 0, 7);
+    let period = field(sheet, 7, 11);
+    let ranges = check_ranges(m, period);
+    if let Verdict::Refused(refusal) = ranges {
+        return Reading::Refused(refusal);
+    }
+    let n = bytes_of(m as usize);
+    if sheet.len() < n {
+        return Reading::Refused(Refusal::TooShort);
+    }
+    if n < sheet.len() {
+        return Reading::Refused(Refusal::TooLong);
+    }
+    Reading::Accepted(m, period)
+}
+
+// The first `n` places of `list` become those of the column.
+fn read_column(list: &mut [u32], sheet: &[u8], column: Column, n: usize)
+    requires { ⌜ ColumnRoom (now sheet) column n (length (now list)) ⌝ }
+    ensures { λ _. ⌜ Filled 0 (entry (now (sheet .entry)) column) n (now (list .entry)) (now (list .exit)) ⌝ }
+{
+    let first = column.first;
+    let step = column.step;
+    let width = column.width;
+    let mut k = 0;
+    while k < n {
+        list[k] = field(sheet, first + step * k, width);
+        k += 1;
+    }
+}
+
+// A column of the trains.
+fn read_times(sheet: &[u8], column: Column, m: usize) -> [u32; 64]
+    requires { ⌜ ColumnRoom (now sheet) column m 64 ⌝ }
+    ensures { λ r. ⌜ r ≡ padded 64 m (λ i. entry (now (sheet .entry)) column (i - 1)) ⌝ }
+{
+    let mut list = [0u32; 64];
+    read_column(&mut list, sheet, column, m);
+    list
+}
+
+// The column of the passengers.
+fn read_passengers(sheet: &[u8], column: Column, n: usize) -> [u32; 2080]
+    requires { ⌜ ColumnRoom (now sheet) column n 2080 ⌝ }
+    ensures { λ r. ⌜ r ≡ padded 2080 n (λ f. entry (now (sheet .entry)) column (f - 1)) ⌝ }
+{
+    let mut list = [0u32; 2080];
+    read_column(&mut list, sheet, column, n);
+    list
+}
+
+// Every field behind the head.
+fn read_columns(sheet: &[u8], m: usize) -> Columns
+    requires { ⌜ Head (now sheet) m ⌝ }
+    ensures { λ r. ⌜ ColumnsOf (now (sheet .entry)) r ⌝ }
+{
+    let departures = read_times(sheet, Column::departures(), m);
+    let driving = read_times(sheet, Column::driving(), m);
+    let delays = read_times(sheet, Column::delays(), m);
+    let passengers = read_passengers(sheet, Column::passengers(m), pairs_of(m));
+    Columns {
+        departures,
+        driving,
+        delays,
+        passengers,
+    }
+}
+
+// The filling bits.
+fn check_filling(sheet: &[u8], m: usize) -> Verdict
+    requires { ⌜ Head (now sheet) m ⌝ }
+    ensures { λ r. ⌜ r ≡ fillingVerdict (now (sheet .entry)) ⌝ }
+{
+    let n = bits_of(m);
+    if 0 < field(sheet, n, 8 * sheet.len() - n) {
+        return Verdict::Refused(Refusal::Filling);
+    }
+    Verdict::Fine
+}
+
+// The numbers of the sheet, then its filling bits.
+fn check_body(sheet: &[u8], m: u32, columns: Columns) -> Verdict
+    requires { ⌜ Head (now sheet) m × ColumnsOf (now sheet) columns ⌝ }
+    ensures { λ r. ⌜ r ≡ bodyVerdict (now (sheet .entry)) ⌝ }
+{
+    let departures = columns.departures;
+    let driving = columns.driving;
+    let delays = columns.delays;
+    let passengers = columns.passengers;
+    let numbers = check_numbers(m, &departures, &driving, &delays, &passengers);
+    if let Verdict::Refused(_) = numbers {
+        return numbers;
+    }
+    check_filling(sheet, m as usize)
+}
+
+// All zeros, for a sheet that is refused before its columns are read.
+fn no_columns() -> Columns {
+    Columns {
+        departures: [0u32; 64],
+        driving: [0u32; 64],
+        delays: [0u32; 64],
+        passengers: [0u32; 2080],
+    }
+}
+
+// The answer of a verdict on a sheet of `m` trains and period `period`.
+fn answer_of(verdict: Verdict, m: u32, period: u32) -> Reading
+    ensures { λ r. ⌜ r ≡ readingOf verdict m period ⌝ }
+{
+    match verdict {
+        Verdict::Fine => Reading::Accepted(m, period),
+        Verdict::Refused(refusal) => Reading::Refused(refusal),
+    }
+}
+
+// The columns behind a head that passed, with the verdict on them.
+fn decode_body(sheet: &[u8], m: u32, period: u32) -> Decoded
+    requires { ⌜ Head (now sheet) m ⌝ }
+    ensures { λ r. ⌜ (r .answer ≡ readingOf (bodyVerdict (now (sheet .entry))) m period) × ColumnsOf (now (sheet .entry)) (r .columns) ⌝ }
+{
+    let columns = read_columns(sheet, m as usize);
+    let answer = answer_of(check_body(sheet, m, columns), m, period);
+    Decoded { answer, columns }
+}
+
+// A sheet taken apart, each field read once: what planning starts from.
+pub fn decode(sheet: &[u8]) -> Decoded
+    ensures { λ r. ⌜ Decoding (now (sheet .entry)) r ⌝ }
+{
+    let head = read_head(sheet);
+    match head {
+        Reading::Accepted(m, period) => decode_body(sheet, m, period),
+        Reading::Refused(refusal) => Decoded {
+            answer: Reading::Refused(refusal),
+            columns: no_columns(),
+        },
+    }
+}
+
+// The lengths of the lent lists.
+fn check_lengths(departures: usize, driving: usize, delays: usize, passengers: usize) -> Verdict
+    ensures { λ r. ⌜ r ≡ lengthsVerdict departures driving delays passengers ⌝ }
+{
+    if departures != 64 {
+        return Verdict::Refused(Refusal::BufferLength);
+    }
+    if driving != 64 {
+        return Verdict::Refused(Refusal::BufferLength);
+    }
+    if delays != 64 {
+        return Verdict::Refused(Refusal::BufferLength);
+    }
+    if passengers != 2080 {
+        return Verdict::Refused(Refusal::BufferLength);
+    }
+    Verdict::Fine
+}
+
+// The columns into the lent lists.
+fn store(
+    columns: Columns,
+    departures: &mut [u32],
+    driving: &mut [u32],
+    delays: &mut [u32],
+    passengers: &mut [u32],
+)
+    requires { ⌜ Fits columns (lists (now departures) (now driving) (now delays) (now passengers)) ⌝ }
+    ensures { λ _. ⌜ Stored columns (lists (now (departures .exit)) (now (driving .exit)) (now (delays .exit)) (now (passengers .exit))) ⌝ }
+{
+    let from = columns.departures;
+    copy_u32(departures, &from);
+    let from = columns.driving;
+    copy_u32(driving, &from);
+    let from = columns.delays;
+    copy_u32(delays, &from);
+    let from = columns.passengers;
+    copy_u32(passengers, &from);
+}
+
+// Reads a sheet into the lent lists.
+pub fn read(
+    sheet: &[u8],
+    departures: &mut [u32],
+    driving: &mut [u32],
+    delays: &mut [u32],
+    passengers: &mut [u32],
+) -> Reading
+    ensures { λ r. ⌜ Read (now (sheet .entry)) (lists (now (departures .entry)) (now (driving .entry)) (now (delays .entry)) (now (passengers .entry))) (lists (now (departures .exit)) (now (driving .exit)) (now (delays .exit)) (now (passengers .exit))) r ⌝ }
+{
+    let lengths = check_lengths(
+        departures.len(),
+        driving.len(),
+        delays.len(),
+        passengers.len(),
+    );
+    if let Verdict::Refused(refusal) = lengths {
+        return Reading::Refused(refusal);
+    }
+    let decoded = decode(sheet);
+    let answer = decoded.answer;
+    if let Reading::Refused(_) = answer {
+        return answer;
+    }
+    let columns = decoded.columns;
+    store(columns, departures, driving, delays, passengers);
+    answer
+}
