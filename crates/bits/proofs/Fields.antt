@@ -8,8 +8,9 @@ use native.Mathlib.Nat.{mod-lt, pow-suc, add-suc, add-zero, add-assoc, mul-assoc
 use native.Mathlib.Numerals.{add-one}
 use native.Mathlib.Omega.{arith}
 use lib.Dec.{lit<}
+use lib.ListN.{length}
 use lib.Pow.{pow-mono}
-use Rattle.bits.specs.Field.{bitAt, fieldOf}
+use Rattle.bits.specs.Field.{bitAt, fieldOf, Within}
 
 pub bit-lt : (s : List ℕ) (i : ℕ) → bitAt s i < 2
 unfolding bitAt
@@ -66,3 +67,7 @@ same-bits s t at (suc w) e i l =
     (λ q. subst (λ (j : ℕ). bitAt s (at + j) ≡ bitAt t (at + j)) (sym (suc-inj q)) b)
     (λ r. same-bits s t at w (omega (arith, bit-lt s (at + w), bit-lt t (at + w))) i (le-of-suc-le-suc r))
     (eq-or-lt-of-le l)
+
+-- a field lies as well within other bytes of the same length
+pub within-same : {s t : List ℕ} {at w : ℕ} → Within s at w → length t ≡ length s → Within t at w
+within-same h e = record { inside = omega (arith, h .inside); narrow = h .narrow; near = h .near }

@@ -2,7 +2,7 @@
 -- `unlike`), a test that passed leaves the rest (`miss`, `alike`); and what a verdict that is fine tells of each check.
 -- Assumes nothing.
 use mathlib.Core.Path.{_≡_, refl, sym, ap, subst, _∙_}
-use mathlib.Core.Logic.{⊎-elim}
+use mathlib.Core.Logic.{_⊎_, inl, inr, ⊎-elim}
 use Prim.Native.Nat.{ℕ, zero, suc, _+_, _-_, _≤_, _<_}
 use native.Mathlib.Nat.{eq-or-lt-of-le}
 use native.Mathlib.Decide.{ℕ-discrete}
@@ -20,6 +20,10 @@ use Rattle.rail.specs.Verdict.{refuse_when_below_, refuse_unless_is_, _a
 
 pub refused-not-fine : {A : Type 0} {r : Refusal} → Refused r ≡ Fine → A
 refused-not-fine e = let z : _≡_ {A = ℕ} 0 1 = cc in let no-way : ⊥ = omega arith in absurd no-way
+
+pub fine-or-refused : (v : Verdict) → (v ≡ Fine) ⊎ ((r : Refusal) × (v ≡ Refused r))
+fine-or-refused Fine = inl refl
+fine-or-refused (Refused r) = inr (r, refl)
 
 -- x refused, so v does
 pub then-stop : (x y : Verdict) {v : Verdict} {r : Refusal} → v ≡ Refused r → v ≡ x → v ≡ x andThen y

@@ -1,0 +1,4 @@
+pub mod Columns
+pub mod Facts
+pub mod Whole
+pub mod Outcome

@@ -1,0 +1,87 @@
+-- `writer::put_column` meets its contract. Invariant: the places passed are put. Measure: the places left.
+-- Assumes nothing.
+use borrow.Author.Needs.{needs}
+use mathlib.Core.Path.{_≡_, refl}
+use Prim.Native.Nat.{ℕ, _≤_, _-_, _+_, _*_, _<_}
+use native.Mathlib.Omega.{arith}
+use lib.ListN.{length}
+use Rattle.bits.specs.Field.{Within}
+use Rattle.bits.proofs.Fields.{within-same}
+use Rattle.sheet.specs.declared.format.Column.{Column}
+use Rattle.writer.specs.Steps.{ColumnPut}
+use Rattle.writer.proofs.Columns.{column-none, column-next}
+use Rattle.writer.proofs.put_column.Statement.{statement}
+use Rattle.writer.proofs.put_column.Tie as tie
+
+abbrev Inv-loop : tie.InvT-loop
+Inv-loop sheet₀ n list first step width k₀ sheet k =
+    (k ≤ n) × ColumnPut sheet₀ (record { first = first; step = step; width = width }) k list sheet
+
+abbrev μ-loop : tie.MeasureT-loop
+μ-loop sheet₀ n list first step width k₀ sheet k = n - k
+
+loop-holds : tie.Need-loop-holds Inv-loop μ-loop
+loop-holds c = (omega arith, column-none _ _ _)
+
+-- the field that this turn puts lies within the sheet
+reach : (c : tie.After-put-arg Inv-loop μ-loop) →
+    let start = c .before .before .before .before .before .args in
+    let k = c .before .before .loop .k in
+    Within (c .before .before .loop .sheet) (start .column .first + start .column .step * k) (start .column .width)
+reach c =
+    let at-loop = c .before .before .loop in
+    within-same (c .before .before .before .before .before .pre .within (at-loop .k) (c .before .loop-test .taken)) (at-loop .inv .1 .long)
+
+mul-put : tie.Need-mul-put Inv-loop μ-loop
+mul-put c = omega (arith, reach c .near)
+
+add-put : tie.Need-add-put Inv-loop μ-loop
+add-put c = omega (arith, reach c .near)
+
+mul-put-2 : tie.Need-mul-put-2 Inv-loop μ-loop
+mul-put-2 c = search needs
+
+shared-slice-read-put : tie.Need-shared-slice-read-put Inv-loop μ-loop
+shared-slice-read-put c = search needs
+
+put-requires : tie.Need-put-requires Inv-loop μ-loop
+put-requires c κs =
+    let turn = c .before in
+    (reach turn, turn .before .before .before .before .before .pre .small (turn .before .before .loop .k) (turn .before .loop-test .taken))
+
+add-k : tie.Need-add-k Inv-loop μ-loop
+add-k c = search needs
+
+loop-less : tie.Need-loop-less Inv-loop μ-loop
+loop-less c = search needs
+
+loop-again : tie.Need-loop-again Inv-loop μ-loop
+loop-again c =
+    let at-loop = c .before .before .before .before .before .before in
+    (omega arith, column-next (at-loop .loop .inv .1) (at-loop .before .before .before .pre .spaced) (c .before .before .put .ensures))
+
+same-length : tie.Need-same-length Inv-loop μ-loop
+same-length c = c .before .loop .inv .1 .long
+
+returns : tie.Need-returns Inv-loop μ-loop
+returns c =
+    let e : c .before .loop .k ≡ c .before .before .before .before .args .n = omega arith in
+    rw e at (c .before .loop .inv .1)
+
+pub put-column-spec : {M : Type 1} → statement M
+put-column-spec =
+    tie.close
+    (tie.spec
+    Inv-loop
+    μ-loop
+    loop-holds
+    mul-put
+    add-put
+    mul-put-2
+    shared-slice-read-put
+    put-requires
+    add-k
+    loop-less
+    loop-again
+    same-length
+    returns)

@@ -1,0 +1,46 @@
+-- `writer::put_filling` meets its contract: the filling is at most seven bits of the last byte.
+-- Assumes nothing.
+use borrow.Author.Needs.{needs}
+use mathlib.Core.Path.{_≡_, refl, ap, _∙_}
+use Prim.Native.Nat.{ℕ, _*_, _-_}
+use native.Mathlib.Omega.{arith}
+use lib.ListN.{length}
+use lib.Pow.{pow-pos}
+use Rattle.sheet.specs.Format.{bitsOf, bytesOf}
+use Rattle.sheet.proofs.Lengths.{bits-le, bytes-bits}
+use Rattle.writer.proofs.put_filling.Statement.{statement}
+use Rattle.writer.proofs.put_filling.Tie as tie
+
+bits-of-requires : tie.Need-bits-of-requires
+bits-of-requires c κs = search needs
+
+mul-put : tie.Need-mul-put
+mul-put c =
+    let start = c .before .before .before in
+    let b = bytes-bits (start .args .m) in
+    omega (arith, bits-le (start .args .m) (start .pre .0))
+
+sub-put : tie.Need-sub-put
+sub-put c =
+    let start = c .before .before .before in
+    let b = bytes-bits (start .args .m) in
+    omega (arith, c .before .bits-of .ensures)
+
+put-requires : tie.Need-put-requires
+put-requires c κs =
+    let start = c .before .before .before in
+    let b = bytes-bits (start .args .m) in
+    let e = c .before .bits-of .ensures in
+    (omega (arith, bits-le (start .args .m) (start .pre .0)), pow-pos _)
+
+same-length : tie.Need-same-length
+same-length c = search needs
+
+returns : tie.Need-returns
+returns c =
+    let called = c .before .before .before in
+    rw (← called .before .bits-of .ensures, ← called .before .before .before .pre .1) (c .before .before .put .ensures)
+
+pub put-filling-spec : {M : Type 1} → statement M
+put-filling-spec =
+    tie.close (tie.spec bits-of-requires mul-put sub-put put-requires same-length returns)

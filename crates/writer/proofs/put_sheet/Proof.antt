@@ -1,0 +1,54 @@
+-- `writer::put_sheet` meets its contract: head, times, passengers and filling make the sheet.
+-- Assumes nothing.
+use borrow.Author.Needs.{needs}
+use mathlib.Core.Path.{_≡_, refl, sym, ap, _∙_}
+use Rattle.writer.proofs.Whole.{head-room, times-room, passengers-room, sheet-put}
+use Rattle.writer.proofs.put_sheet.Statement.{statement}
+use Rattle.writer.proofs.put_sheet.Tie as tie
+
+put-head-requires : tie.Need-put-head-requires
+put-head-requires c κs = head-room _ _ _ (c .before .before .before .before .before .before .pre) refl
+
+put-times-requires : tie.Need-put-times-requires
+put-times-requires c κs =
+    let head = c .before .before .before in
+    times-room _ _ _ (head .before .before .before .before .before .before .before .pre) (head .put-head .ensures .long)
+
+passengers-requires : tie.Need-passengers-requires
+passengers-requires c κs = search needs
+
+put-column-requires : tie.Need-put-column-requires
+put-column-requires c κs =
+    let times = c .before .before .before .before in
+    let head = times .before .before .before .before in
+    rw (c .passengers .ensures)
+    (passengers-room _ _ _ (head .before .before .before .before .before .before .before .pre) (times .put-times .ensures .long ∙ head .put-head .ensures .long))
+
+put-filling-requires : tie.Need-put-filling-requires
+put-filling-requires c κs = search needs
+
+same-length : tie.Need-same-length
+same-length c = search needs
+
+returns : tie.Need-returns
+returns c =
+    let filling = c .before .before in
+    let counts = filling .before .before .before .before in
+    let times = counts .before .before .before .before .before in
+    let head = times .before .before .before .before in
+    sheet-put _ _ _ _ _ _ (head .before .before .before .before .before .before .before .pre) (head .put-head .ensures) (times .put-times .ensures)
+    (rw (counts .before .passengers .ensures) at (counts .put-column .ensures))
+    (filling .put-filling .ensures)
+    (λ i. c .slice-known5 .given i .fits)
+
+pub put-sheet-spec : {M : Type 1} → statement M
+put-sheet-spec =
+    tie.close
+    (tie.spec
+    put-head-requires
+    put-times-requires
+    passengers-requires
+    put-column-requires
+    put-filling-requires
+    same-length
+    returns)

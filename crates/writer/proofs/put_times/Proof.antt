@@ -1,0 +1,71 @@
+-- `writer::put_times` meets its contract: each column has its room, and later columns leave earlier ones as they are.
+-- Assumes nothing.
+use borrow.Author.Needs.{needs}
+use mathlib.Core.Path.{_≡_, refl, _∙_}
+use lib.ListN.{length}
+use Rattle.sheet.specs.Format.{departureColumn, drivingColumn, delayColumn}
+use Rattle.writer.specs.Steps.{ColumnPut}
+use Rattle.writer.proofs.Whole.{departures-room, driving-room, delays-room, times-put}
+use Rattle.writer.proofs.put_times.Statement.{statement}
+use Rattle.writer.proofs.put_times.Tie as tie
+
+departures-requires : tie.Need-departures-requires
+departures-requires c κs = search needs
+
+put-column-requires : tie.Need-put-column-requires
+put-column-requires c κs =
+    let start = c .before .before .before .before .before .before in
+    rw (c .departures .ensures) (departures-room _ _ _ _ _ _ (start .pre) refl)
+
+driving-requires : tie.Need-driving-requires
+driving-requires c κs = search needs
+
+-- after the first column and after the second
+departures-put : (c : tie.After-put-column) →
+    let start = c .before .before .before .before .before .before .before .args in
+    ColumnPut (start .sheet .now) departureColumn (start .m) (start .departures .now) (c .put-column .last .0)
+departures-put c = rw (c .before .departures .ensures) at (c .put-column .ensures)
+
+driving-put : (c : tie.After-put-column2) →
+    let start = c .before .before .before .before .before .before .before .before .before .before .before .before .args in
+    ColumnPut (c .before .before .before .before .before .put-column .last .0) drivingColumn (start .m) (start .driving .now) (c .put-column2 .last .0)
+driving-put c = rw (c .before .driving .ensures) at (c .put-column2 .ensures)
+
+put-column-requires-2 : tie.Need-put-column-requires-2
+put-column-requires-2 c κs =
+    let first = c .before .before .before .before in
+    let start = first .before .before .before .before .before .before .before in
+    rw (c .driving .ensures) (driving-room _ _ _ _ _ _ (start .pre) (departures-put first .long))
+
+delays-requires : tie.Need-delays-requires
+delays-requires c κs = search needs
+
+put-column-requires-3 : tie.Need-put-column-requires-3
+put-column-requires-3 c κs =
+    let second = c .before .before .before .before in
+    let first = second .before .before .before .before .before in
+    let start = first .before .before .before .before .before .before .before in
+    rw (c .delays .ensures) (delays-room _ _ _ _ _ _ (start .pre) (driving-put second .long ∙ departures-put first .long))
+
+same-length : tie.Need-same-length
+same-length c = search needs
+
+returns : tie.Need-returns
+returns c =
+    let third = c .before .before in
+    let second = third .before .before .before .before .before in
+    let first = second .before .before .before .before .before in
+    times-put _ _ _ _ _ _ _ _ (departures-put first) (driving-put second) (rw (third .before .delays .ensures) at (third .put-column3 .ensures))
+
+pub put-times-spec : {M : Type 1} → statement M
+put-times-spec =
+    tie.close
+    (tie.spec
+    departures-requires
+    put-column-requires
+    driving-requires
+    put-column-requires-2
+    delays-requires
+    put-column-requires-3
+    same-length
+    returns)

@@ -1,0 +1,83 @@
+-- `writer::write` meets its contract: all checks, then the sheet into the first bytes.
+-- Assumes nothing.
+use borrow.Author.Needs.{needs}
+use mathlib.Core.Path.{_≡_, refl, sym, ap, _∙_}
+use Prim.Native.Nat.{_≤_}
+use native.Mathlib.Omega.{arith}
+use lib.ListN.{length, length-take}
+use lib.Seq.{length-take-le}
+use Rattle.rail.specs.declared.Verdict.the-variants.{Fine}
+use Rattle.sheet.proofs.Lengths.{bytes-le}
+use Rattle.writer.specs.Write.{given, writeVerdict}
+use Rattle.writer.proofs.Facts.{Accepts, accepts-of-fine}
+use Rattle.writer.proofs.Outcome.{write-refused, write-accepted}
+use Rattle.writer.proofs.write.Statement.{statement}
+use Rattle.writer.proofs.write.Tie as tie
+
+check-write-requires : tie.Need-check-write-requires
+check-write-requires c κs = search needs
+
+enum-known-verdict : tie.Need-enum-known-verdict
+enum-known-verdict c = search needs
+
+returns : tie.Need-returns
+returns c = write-refused _ _ (sym (c .before .verdict .given .1) ∙ c .before .before .before .check-write .ensures)
+
+enum-told : tie.Need-enum-told
+enum-told c = search needs
+
+-- all checks passed
+fine : (c : tie.After-enum-told) →
+    let start = c .before .before .before .before .before .before .before .before .args in
+    writeVerdict (length (start .sheet .now)) (given (start .m) (start .period) (start .departures .now) (start .driving .now) (start .delays .now) (start .passengers .now)) ≡ Fine
+fine c = sym (c .before .before .check-write .ensures) ∙ c .enum-told .given .1
+
+bytes-of-requires : tie.Need-bytes-of-requires
+bytes-of-requires c κs = accepts-of-fine _ _ (fine c) .range .trains-most
+
+-- the sheet fits the buffer
+room : (c : tie.After-bytes-of) → c .bytes-of .result ≤ length (c .before .before .before .before .before .before .before .before .before .args .sheet .now)
+room c =
+    let accepts = accepts-of-fine _ _ (fine (c .before)) in
+    omega (arith, c .bytes-of .ensures, accepts .room-is, bytes-le _ (accepts .range .trains-most))
+
+slice-relend-prefix-put-sheet : tie.Need-slice-relend-prefix-put-sheet
+slice-relend-prefix-put-sheet c = room c
+
+slice-aggregate-put-sheet : tie.Need-slice-aggregate-put-sheet
+slice-aggregate-put-sheet c = sym (length-take-le _ _ (room (c .before)))
+
+put-sheet-requires : tie.Need-put-sheet-requires
+put-sheet-requires c κs =
+    let accepts = accepts-of-fine _ _ (fine (c .before .before)) in
+    record {
+      long = length-take-le _ _ (room (c .before)) ∙ c .before .bytes-of .ensures;
+      range = accepts .range;
+      departures = accepts .lengths .departures;
+      driving = accepts .lengths .driving;
+      delays = accepts .lengths .delays;
+      passengers = accepts .lengths .passengers;
+    }
+
+same-length : tie.Need-same-length
+same-length c = search needs
+
+returns-2 : tie.Need-returns-2
+returns-2 c =
+    let called = c .before .before .before .before in
+    write-accepted _ _ (called .bytes-of .ensures) (sym (fine (called .before))) (c .before .before .put-sheet .ensures)
+
+pub write-spec : {M : Type 1} → statement M
+write-spec =
+    tie.close
+    (tie.spec
+    check-write-requires
+    enum-known-verdict
+    returns
+    enum-told
+    bytes-of-requires
+    slice-relend-prefix-put-sheet
+    slice-aggregate-put-sheet
+    put-sheet-requires
+    same-length
+    returns-2)

@@ -1,0 +1,82 @@
+-- What write returns and what it leaves in the lent bytes. Document 01, "Four operations", and "Numbers of refusal".
+--   writeNumber a, writePlace a, writeLength a     what the paper has the answer a carry
+--   Given                     m, T and the four lists
+--   numbersGiven G            the line's numbers that they hold
+--   writeVerdict room G       all checks of write, in their order, for an output of `room` bytes
+--   Write G before after a    what write answers and leaves
+-- Assumes nothing.
+use Prim.Native.Nat.{ℕ}
+use mathlib.Core.Path.{_≡_}
+use mathlib.Core.List.{List}
+use lib.ListN.{length, take, drop}
+use Rattle.lists.specs.Run.{nth}
+use Rattle.rail.specs.declared.Refusal.{Refusal}
+use Rattle.rail.specs.declared.Refusal.the-variants.{BufferLength, ListLength}
+use Rattle.rail.specs.declared.Verdict.{Verdict}
+use Rattle.rail.specs.declared.Verdict.the-variants.{Fine, Refused}
+use Rattle.rail.specs.Refusal.{numberOf, placeOf}
+use Rattle.rail.specs.Verdict.{refuse_unless_is_, _andThen_, ifFine, numberIn, placeIn}
+use Rattle.sheet.specs.Format.{bytesOf, pairsOf}
+use Rattle.sheet.specs.Numbers.{Numbers, timesIn, numbersIn}
+use Rattle.sheet.specs.Checks.{rangesVerdict, numbersVerdict}
+use Rattle.sheet.specs.Accepted.{SheetOf}
+use Rattle.writer.specs.declared.Writing.{Writing}
+use Rattle.writer.specs.declared.Writing.the-variants.{Accepted, Refused as WriteRefused}
+
+-- accepted answers carry number and place 0 and the length; refused ones carry number and place, and length 0
+abbrev pub writeNumber : Writing → ℕ
+writeNumber (Accepted n) = 0
+writeNumber (WriteRefused r) = numberOf r
+
+abbrev pub writePlace : Writing → ℕ
+writePlace (Accepted n) = 0
+writePlace (WriteRefused r) = placeOf r
+
+abbrev pub writeLength : Writing → ℕ
+writeLength (Accepted n) = n
+writeLength (WriteRefused r) = 0
+
+abbrev pub writingOf : Verdict → ℕ → Writing
+writingOf Fine n = Accepted n
+writingOf (Refused r) n = WriteRefused r
+
+pub record Given : Type 0 where
+  pub trains : ℕ
+  pub period : ℕ
+  pub departures : List ℕ
+  pub driving : List ℕ
+  pub delays : List ℕ
+  pub passengers : List ℕ
+
+abbrev pub given : ℕ → ℕ → List ℕ → List ℕ → List ℕ → List ℕ → Given
+given m T d r y p = record { trains = m; period = T; departures = d; driving = r; delays = y; passengers = p }
+
+abbrev pub numbersGiven : Given → Numbers
+numbersGiven G = numbersIn (G .trains) (G .period) (G .departures) (G .driving) (G .delays) (G .passengers)
+
+-- three lists of m numbers, one of m(m+1)/2
+unfoldable pub listsVerdict : ℕ → ℕ → ℕ → ℕ → ℕ → Verdict
+listsVerdict m d r y p =
+    (refuse ListLength unless d is m)
+    andThen (refuse ListLength unless r is m)
+    andThen (refuse ListLength unless y is m)
+    andThen (refuse ListLength unless p is pairsOf m)
+    andThen Fine
+
+-- the output buffer; m and T; the lists; then their numbers
+unfoldable pub writeVerdict : ℕ → Given → Verdict
+writeVerdict room G =
+    (refuse BufferLength unless room is 3907)
+    andThen rangesVerdict (G .trains) (G .period)
+    andThen listsVerdict (G .trains) (length (G .departures)) (length (G .driving)) (length (G .delays)) (length (G .passengers))
+    andThen numbersVerdict (G .trains) (timesIn (G .departures) (G .driving) (G .delays)) (nth (G .passengers))
+
+-- accepted: the sheet first, the rest unchanged; its length is returned. Refused: nothing changed, length 0
+pub record Write (G : Given) (before after : List ℕ) (a : Writing) : Type 0 where
+  pub answer : a ≡ writingOf (writeVerdict (length before) G) (bytesOf (G .trains))
+  pub number : writeNumber a ≡ numberIn (writeVerdict (length before) G)
+  pub place : writePlace a ≡ placeIn (writeVerdict (length before) G)
+  pub long : writeLength a ≡ ifFine (writeVerdict (length before) G) (bytesOf (G .trains)) 0
+  pub sheet : writeVerdict (length before) G ≡ Fine → SheetOf (numbersGiven G) (take (bytesOf (G .trains)) after)
+  pub rest : writeVerdict (length before) G ≡ Fine → drop (bytesOf (G .trains)) after ≡ drop (bytesOf (G .trains)) before
+  pub unchanged : (r : Refusal) → writeVerdict (length before) G ≡ Refused r → after ≡ before

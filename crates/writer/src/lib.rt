@@ -1,0 +1,217 @@
+// Write: m, T and four lists into a sheet, refused by number.
+// `write` has no `requires`: any numbers, any lists and any buffer get an answer.
+ghost use mathlib.Core.Path.{_≡_};
+ghost use Prim.Native.Nat.{_≤_};
+ghost use lib.ListN.{length, getD};
+ghost use Rattle.sheet.specs.Format.{bytesOf, delayColumn};
+ghost use Rattle.sheet.specs.Accepted.{SheetOf};
+ghost use Rattle.writer.specs.Write.{writeNumber, writePlace, writeLength, given, numbersGiven, listsVerdict, writeVerdict, Write};
+ghost use Rattle.writer.specs.Steps.{PutRoom, ColumnPut, HeadRoom, HeadPut, TimesRoom, TimesPut, FillingPut, Writable};
+use bits::put;
+use rail::Refusal;
+use rail::Verdict;
+use sheet::checks::check_numbers;
+use sheet::checks::check_ranges;
+use sheet::format::Column;
+use sheet::format::bits_of;
+use sheet::format::bytes_of;
+use sheet::format::pairs_of;
+
+// What write answers: the length of the sheet, or why not.
+pub enum Writing {
+    Accepted(usize),
+    Refused(Refusal),
+}
+
+impl Writing {
+    pub fn number(self) -> u32
+        ensures { λ r. ⌜ r ≡ writeNumber self ⌝ }
+    {
+        match self {
+            Writing::Accepted(_) => 0,
+            Writing::Refused(refusal) => refusal.number(),
+        }
+    }
+
+    pub fn place(self) -> u32
+        ensures { λ r. ⌜ r ≡ writePlace self ⌝ }
+    {
+        match self {
+            Writing::Accepted(_) => 0,
+            Writing::Refused(refusal) => refusal.place(),
+        }
+    }
+
+    pub fn length(self) -> usize
+        ensures { λ r. ⌜ r ≡ writeLength self ⌝ }
+    {
+        match self {
+            Writing::Accepted(n) => n,
+            Writing::Refused(_) => 0,
+        }
+    }
+}
+
+// The lengths of the four lists.
+fn check_lists(
+    m: u32,
+    departures: usize,
+    driving: usize,
+    delays: usize,
+    passengers: usize,
+) -> Verdict
+    requires { ⌜ m ≤ 64 ⌝ }
+    ensures { λ r. ⌜ r ≡ listsVerdict m departures driving delays passengers ⌝ }
+{
+    let n = m as usize;
+    if departures != n {
+        return Verdict::Refused(Refusal::ListLength);
+    }
+    if driving != n {
+        return Verdict::Refused(Refusal::ListLength);
+    }
+    if delays != n {
+        return Verdict::Refused(Refusal::ListLength);
+    }
+    if passengers != pairs_of(n) {
+        return Verdict::Refused(Refusal::ListLength);
+    }
+    Verdict::Fine
+}
+
+// All checks of write, in their order; `room` is the length of the output.
+fn check_write(
+    room: usize,
+    m: u32,
+    period: u32,
+    departures: &[u32],
+    driving: &[u32],
+    delays: &[u32],
+    passengers: &[u32],
+) -> Verdict
+    ensures { λ r. ⌜ r ≡ writeVerdict room (given m period (now (departures .entry)) (now (driving .entry)) (now (delays .entry)) (now (passengers .entry))) ⌝ }
+{
+    if room != 3907 {
+        return Verdict::Refused(Refusal::BufferLength);
+    }
+    let ranges = check_ranges(m, period);
+    if let Verdict::Refused(_) = ranges {
+        return ranges;
+    }
+    let lists = check_lists(
+        m,
+        departures.len(),
+        driving.len(),
+        delays.len(),
+        passengers.len(),
+    );
+    if let Verdict::Refused(_) = lists {
+        return lists;
+    }
+    check_numbers(m, departures, driving, delays, passengers)
+}
+
+// The first `n` places of the column become those of `list`.
+fn put_column(sheet: &mut [u8], column: Column, n: usize, list: &[u32])
+    requires { ⌜ PutRoom (now sheet) column n (now list) ⌝ }
+    ensures { λ _. ⌜ ColumnPut (now (sheet .entry)) column n (now (list .entry)) (now (sheet .exit)) ⌝ }
+{
+    let first = column.first;
+    let step = column.step;
+    let width = column.width;
+    let mut k = 0;
+    while k < n {
+        put(sheet, first + step * k, width, list[k]);
+        k += 1;
+    }
+}
+
+// m and T.
+fn put_head(sheet: &mut [u8], m: u32, period: u32)
+    requires { ⌜ HeadRoom (now sheet) m period ⌝ }
+    ensures { λ _. ⌜ HeadPut (now (sheet .entry)) m period (now (sheet .exit)) ⌝ }
+{
+    put(sheet, 0, 7, m);
+    put(sheet, 7, 11, period);
+}
+
+// The times of trains 1 to `m`, column by column.
+fn put_times(sheet: &mut [u8], m: u32, departures: &[u32], driving: &[u32], delays: &[u32])
+    requires { ⌜ TimesRoom (now sheet) m (now departures) (now driving) (now delays) ⌝ }
+    ensures { λ _. ⌜ TimesPut (now (sheet .entry)) m (now (departures .entry)) (now (driving .entry)) (now (delays .entry)) (now (sheet .exit)) ⌝ }
+{
+    let n = m as usize;
+    put_column(sheet, Column::departures(), n, departures);
+    put_column(sheet, Column::driving(), n, driving);
+    put_column(sheet, Column::delays(), n, delays);
+}
+
+// Zeros behind the last field.
+fn put_filling(sheet: &mut [u8], m: u32)
+    requires { ⌜ (m ≤ 64) × (length (now sheet) ≡ bytesOf m) ⌝ }
+    ensures { λ _. ⌜ FillingPut m (now (sheet .entry)) (now (sheet .exit)) ⌝ }
+{
+    let n = bits_of(m as usize);
+    put(sheet, n, 8 * sheet.len() - n, 0);
+}
+
+// The whole sheet into as many bytes as it has.
+fn put_sheet(
+    sheet: &mut [u8],
+    m: u32,
+    period: u32,
+    departures: &[u32],
+    driving: &[u32],
+    delays: &[u32],
+    passengers: &[u32],
+)
+    requires { ⌜ Writable (given m period (now departures) (now driving) (now delays) (now passengers)) (now sheet) ⌝ }
+    ensures { λ _. ⌜ SheetOf (numbersGiven (given m period (now (departures .entry)) (now (driving .entry)) (now (delays .entry)) (now (passengers .entry)))) (now (sheet .exit)) ⌝ }
+{
+    put_head(sheet, m, period);
+    put_times(sheet, m, departures, driving, delays);
+    put_column(
+        sheet,
+        Column::passengers(m as usize),
+        passengers.len(),
+        passengers,
+    );
+    put_filling(sheet, m);
+}
+
+// Writes the sheet of m, T and the four lists into the first bytes of `sheet`.
+pub fn write(
+    m: u32,
+    period: u32,
+    departures: &[u32],
+    driving: &[u32],
+    delays: &[u32],
+    passengers: &[u32],
+    sheet: &mut [u8],
+) -> Writing
+    ensures { λ r. ⌜ Write (given m period (now (departures .entry)) (now (driving .entry)) (now (delays .entry)) (now (passengers .entry))) (now (sheet .entry)) (now (sheet .exit)) r ⌝ }
+{
+    let verdict = check_write(
+        sheet.len(),
+        m,
+        period,
+        departures,
+        driving,
+        delays,
+        passengers,
+    );
+    if let Verdict::Refused(refusal) = verdict {
+        return Writing::Refused(refusal);
+    }
+    let n = bytes_of(m as usize);
+    put_sheet(
+        &mut sheet[..n],
+        m,
+        period,
+        departures,
+        driving,
+        delays,
+        passengers,
+    );
+    Writing::Accepted(n)
+}
