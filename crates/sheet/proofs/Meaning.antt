@@ -52,6 +52,9 @@ same-both N M K g h =
           g .passengers f a c ∙ sym (h .passengers f a c);
     }
 
+pub same-sym : (N M : Numbers) → SameNumbers N M → SameNumbers M N
+same-sym N M h = same-both M N M (same-refl M) h
+
 earliest-same : (N M : Numbers) → SameNumbers N M → (i : ℕ) → 1 ≤ i → i ≤ M .trains
     → earliestOf (N .times) i ≡ earliestOf (M .times) i
 unfolding earliestOf

@@ -19,6 +19,11 @@ use Rattle.writer.specs.declared.Writing.{Writing}
 use Rattle.writer.specs.declared.Writing.the-variants.{Accepted, Refused as WriteRefused}
 use Rattle.writer.specs.Write.{writeNumber, writePlace, writeLength, writingOf, Given, numbersGiven, writeVerdict, Write}
 
+-- an answer that accepts tells that the verdict is fine
+pub written-fine : (v : Verdict) (k : ℕ) {n : ℕ} → Accepted n ≡ writingOf v k → (v ≡ Fine) × (n ≡ k)
+written-fine Fine k e = (refl, cc)
+written-fine (Refused r) k e = let z : _≡_ {A = ℕ} 0 1 = cc in let no-way : ⊥ = omega arith in absurd no-way
+
 module _ (G : Given) (before : List ℕ) where
   -- a refusal changes nothing
   pub write-refused : {r : Refusal} → Refused r ≡ writeVerdict (length before) G → Write G before before (WriteRefused r)

@@ -1,0 +1,72 @@
+-- Each accepted sheet has one meaning and comes back bit for bit. Demand 2, its second half, over the promises of read and
+-- write alone: whatever keeps these promises does this.
+--   ReadThenWrite     what read gives of an accepted sheet, write accepts, and it writes that sheet
+--   WriteThenRead     what write wrote, read accepts, and it gives the same numbers
+--   EqualFields       two accepted sheets with equal fields are equal
+--   DelayStays        one source delay of 0 to 1,440 put into an accepted sheet leaves it accepted and every other field as it was
+-- Assumes nothing.
+use Prim.Native.Nat.{ℕ, _≤_}
+use mathlib.Core.Path.{_≡_}
+use mathlib.Core.List.{List}
+use lib.ListN.{length, take}
+use Rattle.rail.specs.declared.Verdict.the-variants.{Fine}
+use Rattle.bits.specs.Field.{Bytes}
+use Rattle.sheet.specs.Format.{trainsOf, pairsOf}
+use Rattle.sheet.specs.Numbers.{numbersOf}
+use Rattle.sheet.specs.Checks.{sheetVerdict}
+use Rattle.sheet.specs.Accepted.{SameNumbers, withDelay, DelayReplaced}
+use Rattle.reader.specs.declared.Reading.{Reading}
+use Rattle.reader.specs.declared.Reading.the-variants.{Accepted as ReadAccepted}
+use Rattle.reader.specs.Read.{Lists, Read}
+use Rattle.writer.specs.declared.Writing.{Writing}
+use Rattle.writer.specs.declared.Writing.the-variants.{Accepted as WriteAccepted}
+use Rattle.writer.specs.Write.{Given, given, Write}
+
+-- the first m places of three lists and the first m(m+1)/2 of the fourth, as write takes them
+abbrev pub firstOnes : ℕ → ℕ → Lists → Given
+firstOnes m T L =
+    given m T (take m (L .departures)) (take m (L .driving)) (take m (L .delays)) (take (pairsOf m) (L .passengers))
+
+abbrev pub ReadThenWrite : Type 0
+ReadThenWrite =
+    (s : List ℕ) (before after : Lists) (m T : ℕ) (buffer written : List ℕ) (w : Writing)
+    → Bytes s
+    → Read s before after (ReadAccepted m T)
+    → length buffer ≡ 3907
+    → Write (firstOnes m T after) buffer written w
+    → (w ≡ WriteAccepted (length s)) × (take (length s) written ≡ s)
+
+-- the lists that read is lent have the lengths that it asks for
+pub record ReadRoom (L : Lists) : Type 0 where
+  pub departures : length (L .departures) ≡ 64
+  pub driving : length (L .driving) ≡ 64
+  pub delays : length (L .delays) ≡ 64
+  pub passengers : length (L .passengers) ≡ 2080
+
+abbrev pub WriteThenRead : Type 0
+WriteThenRead =
+    (G : Given) (buffer written : List ℕ) (n : ℕ) (before after : Lists) (a : Reading)
+    → Write G buffer written (WriteAccepted n)
+    → ReadRoom before
+    → Read (take n written) before after a
+    → (a ≡ ReadAccepted (G .trains) (G .period)) × (firstOnes (G .trains) (G .period) after ≡ G)
+
+abbrev pub EqualFields : Type 0
+EqualFields =
+    (s t : List ℕ)
+    → Bytes s
+    → Bytes t
+    → sheetVerdict s ≡ Fine
+    → sheetVerdict t ≡ Fine
+    → SameNumbers (numbersOf s) (numbersOf t)
+    → s ≡ t
+
+abbrev pub DelayStays : Type 0
+DelayStays =
+    (s t : List ℕ) (i v : ℕ)
+    → sheetVerdict s ≡ Fine
+    → 1 ≤ i
+    → i ≤ trainsOf s
+    → v ≤ 1440
+    → DelayReplaced s i v t
+    → (sheetVerdict t ≡ Fine) × SameNumbers (numbersOf t) (withDelay (numbersOf s) i v)
