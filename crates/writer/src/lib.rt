@@ -46,7 +46,7 @@ impl Writing {
         ensures { λ r. ⌜ r ≡ writeLength self ⌝ }
     {
         match self {
-            Writing::Accepted(n) => n,
+            Writing::Accepted(bytes) => bytes,
             Writing::Refused(_) => 0,
         }
     }
