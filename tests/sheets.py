@@ -12,12 +12,17 @@
 # with a fixed seed, so every version of Python 3 makes the same bytes.
 #
 # The stream is a sequence of records, all numbers high byte first:
-#   'R'  u16 n, then n bytes: a sheet to read.
-#        prints: read NUMBER PLACE M T C1 C2 C3 C4
-#        and, if accepted: back NUMBER PLACE LENGTH SAME REST
+#   'N'  u16 n, then n bytes: a name. Prints it and a space.
+#   'R'  u16 a, b, c, d, u16 n, then n bytes: a sheet to read into lists of these
+#        lengths, which hold 77 in every place before.
+#        Prints: read NUMBER PLACE M T S1 S2 S3 S4, the sums being of the lists
+#        afterwards; and, if accepted, what write makes of the numbers in 3907
+#        bytes of 165: back NUMBER PLACE LENGTH SAME REST, SAME being 1 if it is
+#        the sheet and REST 1 if all behind it is still 165.
 #   'W'  u32 m, u32 T, u16 a, b, c, d, u16 room, then a+b+c+d numbers of u32:
-#        four lists to write into `room` bytes.
-#        prints: write NUMBER PLACE LENGTH C
+#        four lists to write into `room` bytes of 165.
+#        Prints: write NUMBER PLACE LENGTH S REST, S being the sum of the sheet.
+# A sum is each place, from 1, times what stands there.
 
 import os
 import struct
@@ -156,11 +161,9 @@ def write(m, T, d, r, y, p, room):
     return (0, 0, len(sheet), sheet + before[len(sheet):])
 
 
-def checksum(numbers):
-    acc = 7
-    for v in numbers:
-        acc = (acc * 31 + v) % 1000003
-    return acc
+def weighed(numbers):
+    """Each place, from 1, times what stands there."""
+    return sum(place * number for place, number in enumerate(numbers, 1))
 
 
 # ---------------------------------------------------------------------------
@@ -1094,7 +1097,7 @@ def stream():
     out = b''
     for record in records:
         if record[0] == 'R':
-            out += b'R' + struct.pack('>H', len(record[1])) + record[1]
+            out += b'R' + struct.pack('>HHHHH', 64, 64, 64, 2080, len(record[1])) + record[1]
         else:
             m, T, d, r, y, p, room = record[1:]
             out += b'W' + struct.pack('>IIHHHHH', m, T, len(d), len(r), len(y), len(p), room)
@@ -1109,7 +1112,7 @@ def answers():
             sheet = record[1]
             number, place, m, T, d, r, y, p = read(sheet)
             lines.append('read %d %d %d %d %d %d %d %d' % (
-                (number, place, m, T) + tuple(checksum(part) for part in (d, r, y, p))))
+                (number, place, m, T) + tuple(weighed(part) for part in (d, r, y, p))))
             if number == 0:
                 number, place, length, buffer = write(
                     m, T, d[:m], r[:m], y[:m], p[:pairs_of(m)], 3907)
@@ -1119,7 +1122,8 @@ def answers():
                 lines.append('back %d %d %d %d %d' % (number, place, length, same, rest))
         else:
             number, place, length, buffer = write(*record[1:])
-            lines.append('write %d %d %d %d' % (number, place, length, checksum(buffer)))
+            rest = 1 if all(byte == 165 for byte in buffer[length:]) else 0
+            lines.append('write %d %d %d %d %d' % (number, place, length, weighed(buffer[:length]), rest))
     return ('\n'.join(lines) + '\n').encode('ascii')
 
 

@@ -1,17 +1,5 @@
-// Document 01, "By program", for read and write. Each line is a case: its name, the answer, and what the lent lists or bytes
-// hold afterwards. Before each case every number of a list is 77 and every byte of a buffer 165.
-mod reading;
-mod writing;
-
+// Document 01, "By program", for read and write: the records of stdin, made by tests/cases.py. What they must print, stdout,
+// is written by hand from document 01.
 fn main() {
-    reading::lengths_and_head();
-    reading::trains();
-    reading::passengers_and_filling();
-    reading::orders();
-    reading::lists();
-    writing::sheets();
-    writing::buffer_head_and_lists();
-    writing::trains();
-    writing::passengers();
-    writing::orders();
+    sheet_run::run(libc::STDIN_FILENO);
 }

@@ -1,0 +1,37 @@
+// Runs read and write on records from a file descriptor and prints what they answer and leave.
+// A record is a name ('N'), a sheet to read ('R') or numbers to write ('W'); tests/sheets.py gives their form.
+mod parts;
+mod reads;
+mod source;
+mod sums;
+mod writes;
+
+use crate::source::byte;
+
+// One record of a kind; false where there is none.
+fn record(from: i32, kind: u32) -> bool {
+    if kind == 78 {
+        source::name(from);
+        return true;
+    }
+    if kind == 82 {
+        reads::record(from);
+        return true;
+    }
+    if kind == 87 {
+        writes::record(from);
+        return true;
+    }
+    false
+}
+
+// Up to 100,000 records.
+pub fn run(from: i32) {
+    let mut left: u32 = 100000;
+    while 0 < left {
+        if !record(from, byte(from)) {
+            return;
+        }
+        left -= 1;
+    }
+}
