@@ -10,16 +10,16 @@ use lib.Seq.{ext-getD, getD-take, length-take-le}
 use Rattle.lists.specs.Run.{nth, padded}
 use Rattle.lists.proofs.Run.{padded-length, padded-nth}
 use Rattle.rail.specs.declared.Verdict.the-variants.{Fine}
-use Rattle.rail.proofs.Checks.{then-fine, fine-then, fine-same}
+use Rattle.rail.proofs.Checks.{then-fine, fine-then}
 use Rattle.sheet.specs.Format.{trainsOf, periodOf, departureOf, drivingOf, delayOf, passengersOf, bytesOf, pairsOf}
-use Rattle.sheet.specs.Numbers.{numbersOf}
+use Rattle.sheet.specs.Numbers.{Lists, lists, numbersOf}
 use Rattle.sheet.specs.Checks.{sheetVerdict}
-use Rattle.sheet.specs.Accepted.{Accepted, SameNumbers, SheetOf}
+use Rattle.sheet.specs.Accepted.{Lengths, Accepted, SameNumbers, SheetOf}
 use Rattle.sheet.proofs.Lengths.{pairs-le}
-use Rattle.sheet.proofs.Facts.{accepted-of-fine, fine-of-accepted}
+use Rattle.sheet.proofs.Facts.{fine-of-lengths, accepted-of-fine, fine-of-accepted}
 use Rattle.sheet.proofs.Meaning.{same-sym, in-range-same, sheet-of-one, sheet-of-accepted, accepted-sheet-of}
 use Rattle.sheet.proofs.Amend.{replaced-numbers, replaced-accepted}
-use Rattle.reader.specs.Read.{Lists, lengthsVerdict, readVerdict, readingOf, Read}
+use Rattle.reader.specs.Read.{readVerdict, readingOf, Read}
 use Rattle.reader.proofs.Answers.{reading-accepted, accepted-fine}
 use Rattle.writer.specs.Write.{Given, numbersGiven, writingOf, writeVerdict, Write}
 use Rattle.writer.proofs.Outcome.{written-fine}
@@ -30,7 +30,7 @@ use Rattle.reader.specs.declared.Reading.{Reading}
 use Rattle.reader.specs.declared.Reading.the-variants.{Accepted as ReadAccepted}
 use Rattle.writer.specs.declared.Writing.{Writing}
 use Rattle.writer.specs.declared.Writing.the-variants.{Accepted as WriteAccepted}
-use Rattle.meaning.specs.OneMeaning.{firstOnes, ReadThenWrite, ReadRoom, WriteThenRead, EqualFields, DelayStays}
+use Rattle.meaning.specs.OneMeaning.{firstOnes, ReadThenWrite, WriteThenRead, EqualFields, DelayStays}
 
 pub equal-fields : EqualFields
 equal-fields s t bs bt fs ft same =
@@ -148,17 +148,11 @@ first-same l given size n f e k long same =
     let z : j + 1 - 1 ≡ j = omega arith in
     rw z at (first-nth l size n f e k (j + 1) (omega arith) (omega arith) ∙ same (j + 1) (omega arith) (omega arith)))
 
-module _ (s : List ℕ) (before after : Lists) (a : Reading) (ok : Accepted s) (room : ReadRoom before) (h : Read s before after a) where
+module _ (s : List ℕ) (before after : Lists) (a : Reading) (ok : Accepted s) (room : Lengths 64 2080 before) (h : Read s before after a) where
   read-fine : readVerdict s before ≡ Fine
-  unfolding readVerdict lengthsVerdict
+  unfolding readVerdict
   read-fine =
-      fine-then
-      (fine-then (fine-same _ _ _ (room .departures))
-      (fine-then (fine-same _ _ _ (room .driving))
-      (fine-then (fine-same _ _ _ (room .delays))
-      (fine-then (fine-same _ _ _ (room .passengers))
-      refl))))
-      (fine-of-accepted s ok)
+      fine-then (fine-of-lengths _ _ _ _ room) (fine-of-accepted s ok)
 
   read-answer : a ≡ ReadAccepted (trainsOf s) (periodOf s)
   read-answer = h .answer ∙ ap (λ (v : Verdict). readingOf v (trainsOf s) (periodOf s)) read-fine
@@ -172,22 +166,19 @@ module _ (G : Given) (s : List ℕ) (after : Lists) (accepts : Accepts 3907 G) (
       let m = same .trains in
       let long = accepts .lengths in
       let pairs = ap pairsOf m in
-      let departures : take (trainsOf s) (after .departures) ≡ G .departures = first-same _ (G .departures) 64 _ (departureOf s)
+      let departures : take (trainsOf s) (after .departures) ≡ G .lists .departures = first-same _ (G .lists .departures) 64 _ (departureOf s)
       (g .departures) n (long .departures ∙ sym m) (λ i a b. same .departure i a (omega arith)) in
-      let driving : take (trainsOf s) (after .driving) ≡ G .driving = first-same _ (G .driving) 64 _ (drivingOf s)
+      let driving : take (trainsOf s) (after .driving) ≡ G .lists .driving = first-same _ (G .lists .driving) 64 _ (drivingOf s)
       (g .driving) n (long .driving ∙ sym m) (λ i a b. same .driving i a (omega arith)) in
-      let delays : take (trainsOf s) (after .delays) ≡ G .delays = first-same _ (G .delays) 64 _ (delayOf s)
+      let delays : take (trainsOf s) (after .delays) ≡ G .lists .delays = first-same _ (G .lists .delays) 64 _ (delayOf s)
       (g .delays) n (long .delays ∙ sym m) (λ i a b. same .delay i a (omega arith)) in
-      let passengers : take (pairsOf (trainsOf s)) (after .passengers) ≡ G .passengers
-      = first-same _ (G .passengers) 2080 _ (passengersOf s) (g .passengers) (pairs-le _ n) (long .passengers ∙ sym pairs)
+      let passengers : take (pairsOf (trainsOf s)) (after .passengers) ≡ G .lists .passengers
+      = first-same _ (G .lists .passengers) 2080 _ (passengersOf s) (g .passengers) (pairs-le _ n) (long .passengers ∙ sym pairs)
       (λ f a b. same .passengers f a (omega arith)) in
       λ i. record {
         trains = m i;
         period = same .period i;
-        departures = departures i;
-        driving = driving i;
-        delays = delays i;
-        passengers = passengers i;
+        lists = lists (departures i) (driving i) (delays i) (passengers i);
       }
 
 module _ (G : Given) (buffer written : List ℕ) (n : ℕ) (h : Write G buffer written (WriteAccepted n)) where

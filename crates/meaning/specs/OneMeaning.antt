@@ -12,12 +12,12 @@ use lib.ListN.{length, take}
 use Rattle.rail.specs.declared.Verdict.the-variants.{Fine}
 use Rattle.bits.specs.Field.{Bytes}
 use Rattle.sheet.specs.Format.{trainsOf, pairsOf}
-use Rattle.sheet.specs.Numbers.{numbersOf}
+use Rattle.sheet.specs.Numbers.{Lists, lists, numbersOf}
 use Rattle.sheet.specs.Checks.{sheetVerdict}
-use Rattle.sheet.specs.Accepted.{SameNumbers, withDelay, DelayReplaced}
+use Rattle.sheet.specs.Accepted.{Lengths, SameNumbers, withDelay, DelayReplaced}
 use Rattle.reader.specs.declared.Reading.{Reading}
 use Rattle.reader.specs.declared.Reading.the-variants.{Accepted as ReadAccepted}
-use Rattle.reader.specs.Read.{Lists, Read}
+use Rattle.reader.specs.Read.{Read}
 use Rattle.writer.specs.declared.Writing.{Writing}
 use Rattle.writer.specs.declared.Writing.the-variants.{Accepted as WriteAccepted}
 use Rattle.writer.specs.Write.{Given, given, Write}
@@ -25,7 +25,8 @@ use Rattle.writer.specs.Write.{Given, given, Write}
 -- the first m places of three lists and the first m(m+1)/2 of the fourth, as write takes them
 abbrev pub firstOnes : ℕ → ℕ → Lists → Given
 firstOnes m T L =
-    given m T (take m (L .departures)) (take m (L .driving)) (take m (L .delays)) (take (pairsOf m) (L .passengers))
+    given m T
+    (lists (take m (L .departures)) (take m (L .driving)) (take m (L .delays)) (take (pairsOf m) (L .passengers)))
 
 abbrev pub ReadThenWrite : Type 0
 ReadThenWrite =
@@ -36,18 +37,11 @@ ReadThenWrite =
     → Write (firstOnes m T after) buffer written w
     → (w ≡ WriteAccepted (length s)) × (take (length s) written ≡ s)
 
--- the lists that read is lent have the lengths that it asks for
-pub record ReadRoom (L : Lists) : Type 0 where
-  pub departures : length (L .departures) ≡ 64
-  pub driving : length (L .driving) ≡ 64
-  pub delays : length (L .delays) ≡ 64
-  pub passengers : length (L .passengers) ≡ 2080
-
 abbrev pub WriteThenRead : Type 0
 WriteThenRead =
     (G : Given) (buffer written : List ℕ) (n : ℕ) (before after : Lists) (a : Reading)
     → Write G buffer written (WriteAccepted n)
-    → ReadRoom before
+    → Lengths 64 2080 before
     → Read (take n written) before after a
     → (a ≡ ReadAccepted (G .trains) (G .period)) × (firstOnes (G .trains) (G .period) after ≡ G)
 

@@ -11,7 +11,7 @@ use Rattle.lists.specs.Run.{padded, nth}
 use Rattle.lists.proofs.Run.{padded-length, padded-nth}
 use Rattle.sheet.specs.Format.{trainsOf, periodOf, departureOf, drivingOf, delayOf, passengersOf, passengerColumn, pairsOf}
 use Rattle.sheet.specs.declared.format.Column.{Column}
-use Rattle.sheet.specs.Numbers.{numbersOf, numbersIn}
+use Rattle.sheet.specs.Numbers.{lists, numbersOf, numbersIn}
 use Rattle.sheet.specs.Checks.{Room}
 use Rattle.sheet.specs.Accepted.{SameNumbers}
 use Rattle.sheet.proofs.Lengths.{layout, bytes-bits, pairs-le}
@@ -41,7 +41,7 @@ module _ (s : List ℕ) (m : ℕ) (h : Head s m) where
       }
 
   module _ (c : Columns) (held : ColumnsOf s c) where
-    pub columns-room : Room m (c .departures) (c .driving) (c .delays) (c .passengers)
+    pub columns-room : Room m (lists (c .departures) (c .driving) (c .delays) (c .passengers))
     columns-room =
         let n = h .most in
         record {
@@ -55,10 +55,12 @@ module _ (s : List ℕ) (m : ℕ) (h : Head s m) where
           passengers = rw (held .passengers, padded-length 2080 _ _) (pairs-le m n);
         }
 
-    nth-held : (l : List ℕ) (size n : ℕ) (f : ℕ → ℕ) → l ≡ padded size n f → n ≤ size → (i : ℕ) → 1 ≤ i → i ≤ n → nth l i ≡ f i
+    nth-held : (l : List ℕ) (size n : ℕ) (f : ℕ → ℕ) → l ≡ padded size n f → n ≤ size
+        → (i : ℕ) → 1 ≤ i → i ≤ n → nth l i ≡ f i
     nth-held l size n f e k i a b = ap (λ (x : List ℕ). nth x i) e ∙ padded-nth size n f i a b k
 
-    pub columns-same : SameNumbers (numbersIn m (periodOf s) (c .departures) (c .driving) (c .delays) (c .passengers)) (numbersOf s)
+    pub columns-same : SameNumbers (numbersIn m (periodOf s) (lists (c .departures) (c .driving) (c .delays) (c .passengers)))
+        (numbersOf s)
     columns-same =
         let n : trainsOf s ≤ 64 = omega (arith, h .trains, h .most) in
         record {

@@ -7,20 +7,22 @@ use Prim.Native.Nat.{ℕ}
 use Rattle.rail.specs.declared.Refusal.{Refusal}
 use Rattle.rail.specs.declared.Verdict.the-variants.{Fine, Refused}
 use Rattle.rail.specs.Verdict.{numberIn, placeIn}
-use Rattle.rail.proofs.Checks.{then-fine, is-same, if-fine, if-refused}
+use Rattle.rail.proofs.Checks.{if-fine, if-refused}
 use Rattle.lists.proofs.Run.{padded-length}
 use Rattle.sheet.specs.Format.{trainsOf, periodOf}
-use Rattle.sheet.specs.Checks.{sheetVerdict}
+use Rattle.sheet.specs.Numbers.{Lists}
+use Rattle.sheet.specs.Accepted.{Lengths}
 use Rattle.reader.specs.declared.Reading.{Reading}
 use Rattle.reader.specs.declared.Reading.the-variants.{Accepted, Refused as ReadRefused}
 use Rattle.reader.specs.declared.Columns.{Columns}
-use Rattle.reader.specs.Read.{readNumber, readPlace, readTrains, readPeriod, readingOf, Lists, lengthsVerdict, readVerdict, Read}
+use Rattle.reader.specs.Read.{readNumber, readPlace, readTrains, readPeriod, readingOf, readVerdict, Read}
 use Rattle.reader.specs.Decode.{ColumnsOf, Fits, Stored}
 use Rattle.reader.proofs.Answers.{reading-refused, reading-accepted}
 
 module _ (s : List ℕ) (before : Lists) where
   -- a refusal changes nothing
-  pub read-refused : {a : Reading} {r : Refusal} → a ≡ ReadRefused r → Refused r ≡ readVerdict s before → Read s before before a
+  pub read-refused : {a : Reading} {r : Refusal} → a ≡ ReadRefused r → Refused r ≡ readVerdict s before
+      → Read s before before a
   read-refused p e =
       record {
         answer = p ∙ reading-refused _ _ _ e;
@@ -51,25 +53,18 @@ module _ (s : List ℕ) (before : Lists) where
       }
 
 -- lists of the right lengths have room for the columns
-pub columns-fit : (s : List ℕ) (L : Lists) (c : Columns)
-    → lengthsVerdict (length (L .departures)) (length (L .driving)) (length (L .delays)) (length (L .passengers)) ≡ Fine
-    → ColumnsOf s c → Fits c L
-unfolding lengthsVerdict
-columns-fit s L c e h =
-    let a = then-fine _ _ e in
-    let b = then-fine _ _ (a .1) in
-    let d = then-fine _ _ (b .1) in
-    let f = then-fine _ _ (d .1) in
+pub columns-fit : (s : List ℕ) (L : Lists) (c : Columns) → Lengths 64 2080 L → ColumnsOf s c → Fits c L
+columns-fit s L c l h =
     record {
-      departures = ap length (h .departures) ∙ padded-length _ _ _ ∙ sym (is-same _ _ _ (a .0));
-      driving = ap length (h .driving) ∙ padded-length _ _ _ ∙ sym (is-same _ _ _ (b .0));
-      delays = ap length (h .delays) ∙ padded-length _ _ _ ∙ sym (is-same _ _ _ (d .0));
-      passengers = ap length (h .passengers) ∙ padded-length _ _ _ ∙ sym (is-same _ _ _ (f .0));
+      departures = ap length (h .departures) ∙ padded-length _ _ _ ∙ sym (l .departures);
+      driving = ap length (h .driving) ∙ padded-length _ _ _ ∙ sym (l .driving);
+      delays = ap length (h .delays) ∙ padded-length _ _ _ ∙ sym (l .delays);
+      passengers = ap length (h .passengers) ∙ padded-length _ _ _ ∙ sym (l .passengers);
     }
 
 -- two outcomes that keep read's promise are equal
-pub read-one : (s : List ℕ) (before after after′ : Lists) (a a′ : Reading) → Read s before after a → Read s before after′ a′
-    → (a ≡ a′) × (after ≡ after′)
+pub read-one : (s : List ℕ) (before after after′ : Lists) (a a′ : Reading) → Read s before after a
+    → Read s before after′ a′ → (a ≡ a′) × (after ≡ after′)
 read-one s before after after′ a a′ g h = (
   g .answer ∙ sym (h .answer),
   λ i. record {

@@ -9,10 +9,11 @@ use Rattle.lists.specs.Run.{padded}
 use Rattle.rail.specs.declared.Verdict.the-variants.{Fine}
 use Rattle.sheet.specs.declared.format.Column.{Column}
 use Rattle.sheet.specs.Format.{trainsOf, periodOf, departureOf, drivingOf, delayOf, passengersOf, bytesOf, pairsOf}
+use Rattle.sheet.specs.Numbers.{Lists}
 use Rattle.sheet.specs.Checks.{sheetVerdict}
 use Rattle.reader.specs.declared.Columns.{Columns}
 use Rattle.reader.specs.declared.Decoded.{Decoded}
-use Rattle.reader.specs.Read.{Lists, readingOf}
+use Rattle.reader.specs.Read.{readingOf}
 
 -- n places of the column lie in the sheet, and a list of `size` has room for them
 pub record ColumnRoom (s : List ℕ) (c : Column) (n size : ℕ) : Type 0 where

@@ -1,22 +1,20 @@
 -- What read returns and what it leaves in the lent lists. Document 01, "Four operations", and "Numbers of refusal".
 --   readNumber a, readPlace a, readTrains a, readPeriod a     what the paper has the answer a carry
---   Lists                     the four lent lists
---   lengthsVerdict L          10 for a list of another length
---   readVerdict s L           all checks of read, in their order
---   Read s before after a     what read answers and leaves for the sheet s
+--   readVerdict s L           all checks of read, in their order, for the sheet s and the lent lists L
+--   Read s before after a     what read answers for the sheet s, and what it leaves of the lists
 -- Assumes nothing.
 use Prim.Native.Nat.{ℕ}
 use mathlib.Core.Path.{_≡_}
 use mathlib.Core.List.{List}
-use lib.ListN.{length}
 use Rattle.lists.specs.Run.{padded}
 use Rattle.rail.specs.declared.Refusal.the-variants.{BufferLength}
 use Rattle.rail.specs.declared.Verdict.{Verdict}
 use Rattle.rail.specs.declared.Verdict.the-variants.{Fine, Refused}
 use Rattle.rail.specs.Refusal.{numberOf, placeOf}
-use Rattle.rail.specs.Verdict.{refuse_unless_is_, _andThen_, ifFine, numberIn, placeIn}
+use Rattle.rail.specs.Verdict.{_andThen_, ifFine, numberIn, placeIn}
 use Rattle.sheet.specs.Format.{trainsOf, periodOf, departureOf, drivingOf, delayOf, passengersOf, pairsOf}
-use Rattle.sheet.specs.Checks.{sheetVerdict}
+use Rattle.sheet.specs.Numbers.{Lists}
+use Rattle.sheet.specs.Checks.{lengthsVerdict, sheetVerdict}
 use Rattle.reader.specs.declared.Reading.{Reading}
 use Rattle.reader.specs.declared.Reading.the-variants.{Accepted, Refused as ReadRefused}
 
@@ -41,28 +39,9 @@ abbrev pub readingOf : Verdict → ℕ → ℕ → Reading
 readingOf Fine m T = Accepted m T
 readingOf (Refused r) m T = ReadRefused r
 
-pub record Lists : Type 0 where
-  pub departures : List ℕ
-  pub driving : List ℕ
-  pub delays : List ℕ
-  pub passengers : List ℕ
-
-abbrev pub lists : List ℕ → List ℕ → List ℕ → List ℕ → Lists
-lists d r y p = record { departures = d; driving = r; delays = y; passengers = p }
-
--- three lists of exactly 64 numbers and one of exactly 2,080
-unfoldable pub lengthsVerdict : ℕ → ℕ → ℕ → ℕ → Verdict
-lengthsVerdict d r y p =
-    (refuse BufferLength unless d is 64)
-    andThen (refuse BufferLength unless r is 64)
-    andThen (refuse BufferLength unless y is 64)
-    andThen (refuse BufferLength unless p is 2080)
-    andThen Fine
-
+-- three lists of exactly 64 numbers and one of exactly 2,080; then the sheet
 unfoldable pub readVerdict : List ℕ → Lists → Verdict
-readVerdict s L =
-    lengthsVerdict (length (L .departures)) (length (L .driving)) (length (L .delays)) (length (L .passengers))
-    andThen sheetVerdict s
+readVerdict s L = lengthsVerdict BufferLength 64 2080 L andThen sheetVerdict s
 
 -- accepted: fields first, the rest 0; m and T are returned. Refused: nothing changed, m and T 0
 pub record Read (s : List ℕ) (before after : Lists) (a : Reading) : Type 0 where
@@ -71,7 +50,8 @@ pub record Read (s : List ℕ) (before after : Lists) (a : Reading) : Type 0 whe
   pub place : readPlace a ≡ placeIn (readVerdict s before)
   pub trains : readTrains a ≡ ifFine (readVerdict s before) (trainsOf s) 0
   pub period : readPeriod a ≡ ifFine (readVerdict s before) (periodOf s) 0
-  pub departures : after .departures ≡ ifFine (readVerdict s before) (padded 64 (trainsOf s) (departureOf s)) (before .departures)
+  pub departures : after .departures
+      ≡ ifFine (readVerdict s before) (padded 64 (trainsOf s) (departureOf s)) (before .departures)
   pub driving : after .driving ≡ ifFine (readVerdict s before) (padded 64 (trainsOf s) (drivingOf s)) (before .driving)
   pub delays : after .delays ≡ ifFine (readVerdict s before) (padded 64 (trainsOf s) (delayOf s)) (before .delays)
   pub passengers : after .passengers

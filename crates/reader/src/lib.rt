@@ -6,13 +6,15 @@ ghost use lib.ListN.{length};
 ghost use Rattle.lists.specs.Run.{padded};
 ghost use Rattle.lists.specs.Filled.{Filled};
 ghost use Rattle.sheet.specs.Format.{trainsOf, periodOf, entry, passengerColumn, pairsOf};
+ghost use Rattle.sheet.specs.Numbers.{lists};
 ghost use Rattle.sheet.specs.Checks.{headVerdict, fillingVerdict, bodyVerdict};
-ghost use Rattle.reader.specs.Read.{readNumber, readPlace, readTrains, readPeriod, readingOf, lengthsVerdict, lists, Read};
+ghost use Rattle.reader.specs.Read.{readNumber, readPlace, readTrains, readPeriod, readingOf, Read};
 ghost use Rattle.reader.specs.Decode.{ColumnRoom, Head, ColumnsOf, Decoding, Fits, Stored};
 use bits::field;
 use lists::copy_u32;
 use rail::Refusal;
 use rail::Verdict;
+use sheet::checks::check_lengths;
 use sheet::checks::check_numbers;
 use sheet::checks::check_ranges;
 use sheet::format::Column;
@@ -225,25 +227,6 @@ pub fn decode(sheet: &[u8]) -> Decoded
     }
 }
 
-// The lengths of the lent lists.
-fn check_lengths(departures: usize, driving: usize, delays: usize, passengers: usize) -> Verdict
-    ensures { λ r. ⌜ r ≡ lengthsVerdict departures driving delays passengers ⌝ }
-{
-    if departures != 64 {
-        return Verdict::Refused(Refusal::BufferLength);
-    }
-    if driving != 64 {
-        return Verdict::Refused(Refusal::BufferLength);
-    }
-    if delays != 64 {
-        return Verdict::Refused(Refusal::BufferLength);
-    }
-    if passengers != 2080 {
-        return Verdict::Refused(Refusal::BufferLength);
-    }
-    Verdict::Fine
-}
-
 // The columns into the lent lists.
 fn store(
     columns: Columns,
@@ -276,10 +259,13 @@ pub fn read(
     ensures { λ r. ⌜ Read (now (sheet .entry)) (lists (now (departures .entry)) (now (driving .entry)) (now (delays .entry)) (now (passengers .entry))) (lists (now (departures .exit)) (now (driving .exit)) (now (delays .exit)) (now (passengers .exit))) r ⌝ }
 {
     let lengths = check_lengths(
-        departures.len(),
-        driving.len(),
-        delays.len(),
-        passengers.len(),
+        Refusal::BufferLength,
+        64,
+        2080,
+        departures,
+        driving,
+        delays,
+        passengers,
     );
     if let Verdict::Refused(refusal) = lengths {
         return Reading::Refused(refusal);

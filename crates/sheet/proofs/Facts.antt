@@ -5,13 +5,39 @@ use mathlib.Core.List.{List}
 use Prim.Native.Nat.{ℕ, _+_, _≤_, _<_, zero-le}
 use native.Mathlib.Omega.{arith}
 use lib.ListN.{length}
+use Rattle.rail.specs.declared.Refusal.{Refusal}
 use Rattle.rail.specs.declared.Verdict.the-variants.{Fine}
-use Rattle.rail.proofs.Checks.{then-fine, fine-then, not-below, fine-not-below, first-fine, fine-first}
+use Rattle.rail.proofs.Checks.{then-fine, fine-then, not-below, fine-not-below, is-same, fine-same, first-fine, fine-first}
 use Rattle.sheet.specs.Format.{trainsOf, periodOf, pairsOf, bitsOf, bytesOf}
-use Rattle.sheet.specs.Numbers.{Times, Numbers, numbersOf}
-use Rattle.sheet.specs.Checks.{rangesVerdict, trainVerdict, passengersVerdict, numbersVerdict, headVerdict, fillingVerdict, bodyVerdict, sheetVerdict}
-use Rattle.sheet.specs.Accepted.{TrainInRange, InRange, Accepted}
+use Rattle.sheet.specs.Numbers.{Times, Numbers, Lists, numbersOf}
+use Rattle.sheet.specs.Checks.{lengthsVerdict, rangesVerdict, trainVerdict, passengersVerdict, numbersVerdict, headVerdict, fillingVerdict, bodyVerdict, sheetVerdict}
+use Rattle.sheet.specs.Accepted.{Lengths, TrainInRange, InRange, Accepted}
 use Rattle.sheet.proofs.Lengths.{layout, bytes-bits}
+
+-- ---- the lists
+
+pub lengths-of-fine : (r : Refusal) (n k : ℕ) (L : Lists) → lengthsVerdict r n k L ≡ Fine → Lengths n k L
+unfolding lengthsVerdict
+lengths-of-fine r n k L e =
+    let a = then-fine _ _ e in
+    let b = then-fine _ _ (a .1) in
+    let c = then-fine _ _ (b .1) in
+    let d = then-fine _ _ (c .1) in
+    record {
+      departures = is-same _ _ _ (a .0);
+      driving = is-same _ _ _ (b .0);
+      delays = is-same _ _ _ (c .0);
+      passengers = is-same _ _ _ (d .0);
+    }
+
+pub fine-of-lengths : (r : Refusal) (n k : ℕ) (L : Lists) → Lengths n k L → lengthsVerdict r n k L ≡ Fine
+unfolding lengthsVerdict
+fine-of-lengths r n k L h =
+    fine-then (fine-same _ _ _ (h .departures))
+    (fine-then (fine-same _ _ _ (h .driving))
+    (fine-then (fine-same _ _ _ (h .delays))
+    (fine-then (fine-same _ _ _ (h .passengers))
+    refl)))
 
 -- ---- the numbers
 

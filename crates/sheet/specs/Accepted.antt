@@ -1,4 +1,5 @@
 -- Accepted sheets as plain facts. Document 01, the table of "The line and its numbers", and "The bit sheet".
+--   Lengths n k L   three lists of n numbers, one of k
 --   InRange N       every number of the line lies in its range, and no slack is under 0
 --   Accepted s      the sheet s passes every check
 --   SheetOf N s     s is the sheet of the numbers N: every field holds its number, and the filling bits are 0
@@ -11,8 +12,14 @@ use lib.ListN.{length}
 use Rattle.bits.specs.Field.{Bytes, Put}
 use Rattle.lists.specs.Choice.{ifSame}
 use Rattle.sheet.specs.Format.{trainsOf, delayColumn, bytesOf, pairsOf, fillingOf}
-use Rattle.sheet.specs.Numbers.{Times, Numbers, numbersOf}
+use Rattle.sheet.specs.Numbers.{Times, Numbers, Lists, numbersOf}
 use Rattle.sheet.specs.Checks.{earliestOf}
+
+pub record Lengths (n k : ℕ) (L : Lists) : Type 0 where
+  pub departures : length (L .departures) ≡ n
+  pub driving : length (L .driving) ≡ n
+  pub delays : length (L .delays) ≡ n
+  pub passengers : length (L .passengers) ≡ k
 
 pub record TrainInRange (x : Times) (i : ℕ) : Type 0 where
   pub departure : x .departure i ≤ 2879

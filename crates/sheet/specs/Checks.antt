@@ -1,4 +1,5 @@
 -- The checks of a sheet and of its numbers. Document 01, "Numbers of refusal, in the order of checking".
+--   lengthsVerdict r n k L       r, a 10, for lists of other lengths than n, n, n and k
 --   rangesVerdict m T            2 and 3
 --   trainVerdict x i             5, 13, 6, 7 for train i; a field of 10 bits is never 13
 --   passengersVerdict p f        8 for passenger field f
@@ -11,13 +12,23 @@ use Prim.Native.Nat.{ℕ, _+_, _-_, _≤_}
 use mathlib.Core.List.{List}
 use lib.ListN.{length}
 use Rattle.lists.specs.Choice.{ifBelow}
+use Rattle.rail.specs.declared.Refusal.{Refusal}
 use Rattle.rail.specs.declared.Refusal.the-variants.{NoHead, TrainCount, Period, TooShort, TooLong, Departure, Driving, SourceDelay, Slack, Passengers, Filling}
 use Rattle.rail.specs.declared.Verdict.{Verdict}
 use Rattle.rail.specs.declared.Verdict.the-variants.{Fine}
 use Rattle.rail.specs.Refusal.{train}
-use Rattle.rail.specs.Verdict.{refuse_when_below_, _andThen_, firstOf}
+use Rattle.rail.specs.Verdict.{refuse_when_below_, refuse_unless_is_, _andThen_, firstOf}
 use Rattle.sheet.specs.Format.{trainsOf, periodOf, passengersOf, pairsOf, bytesOf, fillingOf}
-use Rattle.sheet.specs.Numbers.{Times, timesOf}
+use Rattle.sheet.specs.Numbers.{Times, Lists, timesOf}
+
+-- three lists of n numbers, one of k
+unfoldable pub lengthsVerdict : Refusal → ℕ → ℕ → Lists → Verdict
+lengthsVerdict r n k L =
+    (refuse r unless length (L .departures) is n)
+    andThen (refuse r unless length (L .driving) is n)
+    andThen (refuse r unless length (L .delays) is n)
+    andThen (refuse r unless length (L .passengers) is k)
+    andThen Fine
 
 -- m is 0 or over 64; T is 0 or over 1,440
 unfoldable pub rangesVerdict : ℕ → ℕ → Verdict
@@ -76,7 +87,7 @@ pub record TrainRoom (m : ℕ) (d r y : List ℕ) : Type 0 where
   pub driving : m ≤ length r
   pub delays : m ≤ length y
 
--- and what the checks of the passengers read in the list p
-pub record Room (m : ℕ) (d r y p : List ℕ) : Type 0 where
-  pub trains : TrainRoom m d r y
-  pub passengers : pairsOf m ≤ length p
+-- and what the checks of the passengers read, in the fourth list
+pub record Room (m : ℕ) (L : Lists) : Type 0 where
+  pub trains : TrainRoom m (L .departures) (L .driving) (L .delays)
+  pub passengers : pairsOf m ≤ length (L .passengers)

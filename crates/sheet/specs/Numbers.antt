@@ -1,8 +1,9 @@
 -- The numbers of a line. Document 01, "The line and its numbers". Trains and passenger fields count from 1.
 --   Times        departure, driving time and source delay by train
 --   Numbers      m, T, the times, and the passengers by field
---   timesOf s, numbersOf s     those that a sheet holds
---   timesIn .., numbersIn ..   those that lists hold, the first place of each being train 1 or field 1
+--   Lists        departures, driving times, delays and passengers as lists, whose first places are train 1 and field 1
+--   timesOf s, numbersOf s         the numbers that a sheet holds
+--   timesIn d r y, numbersIn m T L     the numbers that lists hold
 -- Assumes nothing.
 use Prim.Native.Nat.{ℕ}
 use mathlib.Core.List.{List}
@@ -26,9 +27,23 @@ timesOf s = record { departure = departureOf s; driving = drivingOf s; delay = d
 abbrev pub numbersOf : List ℕ → Numbers
 numbersOf s = record { trains = trainsOf s; period = periodOf s; times = timesOf s; passengers = passengersOf s }
 
-abbrev pub timesIn : List ℕ → List ℕ → List ℕ → Times
-timesIn departures driving delays = record { departure = nth departures; driving = nth driving; delay = nth delays }
+pub record Lists : Type 0 where
+  pub departures : List ℕ
+  pub driving : List ℕ
+  pub delays : List ℕ
+  pub passengers : List ℕ
 
-abbrev pub numbersIn : ℕ → ℕ → List ℕ → List ℕ → List ℕ → List ℕ → Numbers
-numbersIn m T departures driving delays passengers =
-    record { trains = m; period = T; times = timesIn departures driving delays; passengers = nth passengers }
+abbrev pub lists : List ℕ → List ℕ → List ℕ → List ℕ → Lists
+lists d r y p = record { departures = d; driving = r; delays = y; passengers = p }
+
+abbrev pub timesIn : List ℕ → List ℕ → List ℕ → Times
+timesIn d r y = record { departure = nth d; driving = nth r; delay = nth y }
+
+abbrev pub numbersIn : ℕ → ℕ → Lists → Numbers
+numbersIn m T L =
+    record {
+      trains = m;
+      period = T;
+      times = timesIn (L .departures) (L .driving) (L .delays);
+      passengers = nth (L .passengers);
+    }

@@ -4,12 +4,39 @@ ghost use Prim.Native.Nat.{_≤_};
 ghost use lib.ListN.{length};
 ghost use Rattle.lists.specs.Run.{nth};
 ghost use Rattle.rail.specs.Verdict.{firstOf};
-ghost use Rattle.sheet.specs.Numbers.{timesIn};
-ghost use Rattle.sheet.specs.Checks.{rangesVerdict, earliestOf, trainVerdict, passengersVerdict, numbersVerdict, TrainRoom, Room};
+ghost use Rattle.sheet.specs.Numbers.{lists, timesIn};
+ghost use Rattle.sheet.specs.Checks.{lengthsVerdict, rangesVerdict, earliestOf, trainVerdict, passengersVerdict, numbersVerdict, TrainRoom, Room};
 use crate::format::pairs_of;
 use rail::Refusal;
 use rail::Train;
 use rail::Verdict;
+
+// The lengths of four lists: `n` for each of the trains' three, `k` for the passengers'.
+pub fn check_lengths(
+    refusal: Refusal,
+    n: usize,
+    k: usize,
+    departures: &[u32],
+    driving: &[u32],
+    delays: &[u32],
+    passengers: &[u32],
+) -> Verdict
+    ensures { λ r. ⌜ r ≡ lengthsVerdict refusal n k (lists (now (departures .entry)) (now (driving .entry)) (now (delays .entry)) (now (passengers .entry))) ⌝ }
+{
+    if departures.len() != n {
+        return Verdict::Refused(refusal);
+    }
+    if driving.len() != n {
+        return Verdict::Refused(refusal);
+    }
+    if delays.len() != n {
+        return Verdict::Refused(refusal);
+    }
+    if passengers.len() != k {
+        return Verdict::Refused(refusal);
+    }
+    Verdict::Fine
+}
 
 // The number of trains and the period.
 pub fn check_ranges(m: u32, period: u32) -> Verdict
@@ -104,7 +131,7 @@ pub fn check_numbers(
     delays: &[u32],
     passengers: &[u32],
 ) -> Verdict
-    requires { ⌜ Room m (now departures) (now driving) (now delays) (now passengers) ⌝ }
+    requires { ⌜ Room m (lists (now departures) (now driving) (now delays) (now passengers)) ⌝ }
     ensures { λ r. ⌜ r ≡ numbersVerdict m (timesIn (now (departures .entry)) (now (driving .entry)) (now (delays .entry))) (nth (now (passengers .entry))) ⌝ }
 {
     let trains = check_trains(m, departures, driving, delays);

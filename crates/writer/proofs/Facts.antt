@@ -8,43 +8,14 @@ use lib.ListN.{length}
 use Rattle.rail.specs.declared.Verdict.the-variants.{Fine}
 use Rattle.rail.proofs.Checks.{then-fine, fine-then, is-same, fine-same}
 use Rattle.sheet.specs.Format.{pairsOf}
-use Rattle.sheet.specs.Accepted.{InRange}
-use Rattle.sheet.proofs.Facts.{ranges-of-fine, fine-of-ranges, in-range-of-fine, ranges-of-in-range, fine-of-in-range}
-use Rattle.writer.specs.Write.{Given, numbersGiven, listsVerdict, writeVerdict}
-
-pub record Lengths (m d r y p : ℕ) : Type 0 where
-  pub departures : d ≡ m
-  pub driving : r ≡ m
-  pub delays : y ≡ m
-  pub passengers : p ≡ pairsOf m
-
-pub lengths-of-fine : (m d r y p : ℕ) → listsVerdict m d r y p ≡ Fine → Lengths m d r y p
-unfolding listsVerdict
-lengths-of-fine m d r y p e =
-    let a = then-fine _ _ e in
-    let b = then-fine _ _ (a .1) in
-    let c = then-fine _ _ (b .1) in
-    let f = then-fine _ _ (c .1) in
-    record {
-      departures = is-same _ _ _ (a .0);
-      driving = is-same _ _ _ (b .0);
-      delays = is-same _ _ _ (c .0);
-      passengers = is-same _ _ _ (f .0);
-    }
-
-fine-of-lengths : (m d r y p : ℕ) → Lengths m d r y p → listsVerdict m d r y p ≡ Fine
-unfolding listsVerdict
-fine-of-lengths m d r y p h =
-    fine-then (fine-same _ _ _ (h .departures))
-    (fine-then (fine-same _ _ _ (h .driving))
-    (fine-then (fine-same _ _ _ (h .delays))
-    (fine-then (fine-same _ _ _ (h .passengers))
-    refl)))
+use Rattle.sheet.specs.Accepted.{Lengths, InRange}
+use Rattle.sheet.proofs.Facts.{lengths-of-fine, fine-of-lengths, ranges-of-fine, fine-of-ranges, in-range-of-fine, ranges-of-in-range, fine-of-in-range}
+use Rattle.writer.specs.Write.{Given, numbersGiven, writeVerdict}
 
 -- what write accepts
 pub record Accepts (room : ℕ) (G : Given) : Type 0 where
   pub room-is : room ≡ 3907
-  pub lengths : Lengths (G .trains) (length (G .departures)) (length (G .driving)) (length (G .delays)) (length (G .passengers))
+  pub lengths : Lengths (G .trains) (pairsOf (G .trains)) (G .lists)
   pub range : InRange (numbersGiven G)
 
 pub accepts-of-fine : (room : ℕ) (G : Given) → writeVerdict room G ≡ Fine → Accepts room G
@@ -55,7 +26,7 @@ accepts-of-fine room G e =
     let c = then-fine _ _ (b .1) in
     record {
       room-is = is-same _ _ _ (a .0);
-      lengths = lengths-of-fine _ _ _ _ _ (c .0);
+      lengths = lengths-of-fine _ _ _ _ (c .0);
       range = in-range-of-fine (numbersGiven G) (ranges-of-fine _ _ (b .0)) (c .1);
     }
 
@@ -64,5 +35,5 @@ unfolding writeVerdict
 fine-of-accepts room G h =
     fine-then (fine-same _ _ _ (h .room-is))
     (fine-then (fine-of-ranges _ _ (ranges-of-in-range (numbersGiven G) (h .range)))
-    (fine-then (fine-of-lengths _ _ _ _ _ (h .lengths))
+    (fine-then (fine-of-lengths _ _ _ _ (h .lengths))
     (fine-of-in-range (numbersGiven G) (h .range))))

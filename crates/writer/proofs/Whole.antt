@@ -53,25 +53,25 @@ module _ (G : Given) (s t : List ℕ) (h : Writable G s) (same : length t ≡ le
         period = h .range .period-most;
       }
 
-  pub times-room : TimesRoom t (G .trains) (G .departures) (G .driving) (G .delays)
+  pub times-room : TimesRoom t (G .trains) (G .lists .departures) (G .lists .driving) (G .lists .delays)
   times-room =
       let b = bytes-bits (G .trains) in
       let l = h .long in
       record {
         room = omega (arith, layout (G .trains));
         most = h .range .trains-most;
-        departures = omega (arith, h .departures);
-        driving = omega (arith, h .driving);
-        delays = omega (arith, h .delays);
+        departures = omega (arith, h .lengths .departures);
+        driving = omega (arith, h .lengths .driving);
+        delays = omega (arith, h .lengths .delays);
         train = h .range .train;
       }
 
-  pub passengers-room : PutRoom t (passengerColumn (G .trains)) (length (G .passengers)) (G .passengers)
+  pub passengers-room : PutRoom t (passengerColumn (G .trains)) (length (G .lists .passengers)) (G .lists .passengers)
   passengers-room =
       let m = G .trains in
       let b = bytes-bits m in
       let l = h .long in
-      let n = h .passengers in
+      let n = h .lengths .passengers in
       let most = h .range .trains-most in
       record {
         listed = omega arith;
@@ -109,8 +109,8 @@ module _ (m : ℕ) (d r y s t u v : List ℕ) where
       }
 
 module _ (G : Given) (s t u v z : List ℕ) (ok : Writable G s) (head : HeadPut s (G .trains) (G .period) t)
-    (times : TimesPut t (G .trains) (G .departures) (G .driving) (G .delays) u)
-    (counts : ColumnPut u (passengerColumn (G .trains)) (length (G .passengers)) (G .passengers) v)
+    (times : TimesPut t (G .trains) (G .lists .departures) (G .lists .driving) (G .lists .delays) u)
+    (counts : ColumnPut u (passengerColumn (G .trains)) (length (G .lists .passengers)) (G .lists .passengers) v)
     (filling : FillingPut (G .trains) v z) where
   -- what stands before the passengers is what the times left
   before-counts : (a w : ℕ) → a + w ≤ 18 + 33 * G .trains → fieldOf z a w ≡ fieldOf u a w
@@ -134,7 +134,7 @@ module _ (G : Given) (s t u v z : List ℕ) (ok : Writable G s) (head : HeadPut 
         delay = λ i a b. before-counts _ _ (omega arith) ∙ times .delay i a b;
         passengers = λ f a b.
             rw trains-put
-            (put-apart filling _ _ (inl (omega (arith, layout (G .trains)))) ∙ counts .holds (f - 1) (omega (arith, ok .passengers)));
+            (put-apart filling _ _ (inl (omega (arith, layout (G .trains)))) ∙ counts .holds (f - 1) (omega (arith, ok .lengths .passengers)));
       }
 
   pub sheet-put : Bytes z → SheetOf (numbersGiven G) z

@@ -10,7 +10,7 @@ use Rattle.lists.specs.Run.{nth}
 use Rattle.sheet.specs.declared.format.Column.{Column}
 use Rattle.sheet.specs.Format.{trainsOf, periodOf, entry, departureOf, drivingOf, delayOf, bitsOf, bytesOf, pairsOf}
 use Rattle.sheet.specs.Numbers.{timesIn}
-use Rattle.sheet.specs.Accepted.{TrainInRange, InRange}
+use Rattle.sheet.specs.Accepted.{Lengths, TrainInRange, InRange}
 use Rattle.writer.specs.Write.{Given, numbersGiven}
 
 -- the first n numbers of the list fit the column, and the column the sheet
@@ -24,7 +24,8 @@ pub record PutRoom (s : List ℕ) (c : Column) (n : ℕ) (l : List ℕ) : Type 0
 pub record ColumnPut (s : List ℕ) (c : Column) (n : ℕ) (l t : List ℕ) : Type 0 where
   pub long : length t ≡ length s
   pub holds : (k : ℕ) → k < n → entry t c k ≡ getD l k 0
-  pub others : (a w : ℕ) → ((k : ℕ) → k < n → Apart a w (c .first + c .step * k) (c .width)) → fieldOf t a w ≡ fieldOf s a w
+  pub others : (a w : ℕ) → ((k : ℕ) → k < n → Apart a w (c .first + c .step * k) (c .width))
+      → fieldOf t a w ≡ fieldOf s a w
 
 pub record HeadRoom (s : List ℕ) (m T : ℕ) : Type 0 where
   pub room : 18 ≤ 8 * length s
@@ -60,8 +61,5 @@ FillingPut m s t = Put s (bitsOf m) (8 * bytesOf m - bitsOf m) 0 t
 -- lists of the right lengths, numbers in range, and as many bytes as the sheet has
 pub record Writable (G : Given) (s : List ℕ) : Type 0 where
   pub long : length s ≡ bytesOf (G .trains)
+  pub lengths : Lengths (G .trains) (pairsOf (G .trains)) (G .lists)
   pub range : InRange (numbersGiven G)
-  pub departures : length (G .departures) ≡ G .trains
-  pub driving : length (G .driving) ≡ G .trains
-  pub delays : length (G .delays) ≡ G .trains
-  pub passengers : length (G .passengers) ≡ pairsOf (G .trains)

@@ -9,7 +9,6 @@ use Prim.Native.Nat.{ℕ}
 use mathlib.Core.Path.{_≡_}
 use mathlib.Core.List.{List}
 use lib.ListN.{length, take, drop}
-use Rattle.lists.specs.Run.{nth}
 use Rattle.rail.specs.declared.Refusal.{Refusal}
 use Rattle.rail.specs.declared.Refusal.the-variants.{BufferLength, ListLength}
 use Rattle.rail.specs.declared.Verdict.{Verdict}
@@ -17,8 +16,8 @@ use Rattle.rail.specs.declared.Verdict.the-variants.{Fine, Refused}
 use Rattle.rail.specs.Refusal.{numberOf, placeOf}
 use Rattle.rail.specs.Verdict.{refuse_unless_is_, _andThen_, ifFine, numberIn, placeIn}
 use Rattle.sheet.specs.Format.{bytesOf, pairsOf}
-use Rattle.sheet.specs.Numbers.{Numbers, timesIn, numbersIn}
-use Rattle.sheet.specs.Checks.{rangesVerdict, numbersVerdict}
+use Rattle.sheet.specs.Numbers.{Numbers, Lists, numbersIn}
+use Rattle.sheet.specs.Checks.{lengthsVerdict, rangesVerdict, numbersVerdict}
 use Rattle.sheet.specs.Accepted.{SheetOf}
 use Rattle.writer.specs.declared.Writing.{Writing}
 use Rattle.writer.specs.declared.Writing.the-variants.{Accepted, Refused as WriteRefused}
@@ -43,33 +42,21 @@ writingOf (Refused r) n = WriteRefused r
 pub record Given : Type 0 where
   pub trains : ℕ
   pub period : ℕ
-  pub departures : List ℕ
-  pub driving : List ℕ
-  pub delays : List ℕ
-  pub passengers : List ℕ
+  pub lists : Lists
 
-abbrev pub given : ℕ → ℕ → List ℕ → List ℕ → List ℕ → List ℕ → Given
-given m T d r y p = record { trains = m; period = T; departures = d; driving = r; delays = y; passengers = p }
+abbrev pub given : ℕ → ℕ → Lists → Given
+given m T L = record { trains = m; period = T; lists = L }
 
 abbrev pub numbersGiven : Given → Numbers
-numbersGiven G = numbersIn (G .trains) (G .period) (G .departures) (G .driving) (G .delays) (G .passengers)
+numbersGiven G = numbersIn (G .trains) (G .period) (G .lists)
 
--- three lists of m numbers, one of m(m+1)/2
-unfoldable pub listsVerdict : ℕ → ℕ → ℕ → ℕ → ℕ → Verdict
-listsVerdict m d r y p =
-    (refuse ListLength unless d is m)
-    andThen (refuse ListLength unless r is m)
-    andThen (refuse ListLength unless y is m)
-    andThen (refuse ListLength unless p is pairsOf m)
-    andThen Fine
-
--- the output buffer; m and T; the lists; then their numbers
+-- the output buffer; m and T; the lists of m, m, m and m(m+1)/2 numbers; then the numbers
 unfoldable pub writeVerdict : ℕ → Given → Verdict
 writeVerdict room G =
     (refuse BufferLength unless room is 3907)
     andThen rangesVerdict (G .trains) (G .period)
-    andThen listsVerdict (G .trains) (length (G .departures)) (length (G .driving)) (length (G .delays)) (length (G .passengers))
-    andThen numbersVerdict (G .trains) (timesIn (G .departures) (G .driving) (G .delays)) (nth (G .passengers))
+    andThen lengthsVerdict ListLength (G .trains) (pairsOf (G .trains)) (G .lists)
+    andThen numbersVerdict (G .trains) (numbersGiven G .times) (numbersGiven G .passengers)
 
 -- accepted: the sheet first, the rest unchanged; its length is returned. Refused: nothing changed, length 0
 pub record Write (G : Given) (before after : List ℕ) (a : Writing) : Type 0 where
@@ -78,5 +65,6 @@ pub record Write (G : Given) (before after : List ℕ) (a : Writing) : Type 0 wh
   pub place : writePlace a ≡ placeIn (writeVerdict (length before) G)
   pub long : writeLength a ≡ ifFine (writeVerdict (length before) G) (bytesOf (G .trains)) 0
   pub sheet : writeVerdict (length before) G ≡ Fine → SheetOf (numbersGiven G) (take (bytesOf (G .trains)) after)
-  pub rest : writeVerdict (length before) G ≡ Fine → drop (bytesOf (G .trains)) after ≡ drop (bytesOf (G .trains)) before
+  pub rest : writeVerdict (length before) G ≡ Fine
+      → drop (bytesOf (G .trains)) after ≡ drop (bytesOf (G .trains)) before
   pub unchanged : (r : Refusal) → writeVerdict (length before) G ≡ Refused r → after ≡ before

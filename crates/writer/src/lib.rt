@@ -2,14 +2,16 @@
 // `write` has no `requires`: any numbers, any lists and any buffer get an answer.
 ghost use mathlib.Core.Path.{_≡_};
 ghost use Prim.Native.Nat.{_≤_};
-ghost use lib.ListN.{length, getD};
-ghost use Rattle.sheet.specs.Format.{bytesOf, delayColumn};
+ghost use lib.ListN.{length};
+ghost use Rattle.sheet.specs.Format.{bytesOf};
+ghost use Rattle.sheet.specs.Numbers.{lists};
 ghost use Rattle.sheet.specs.Accepted.{SheetOf};
-ghost use Rattle.writer.specs.Write.{writeNumber, writePlace, writeLength, given, numbersGiven, listsVerdict, writeVerdict, Write};
+ghost use Rattle.writer.specs.Write.{writeNumber, writePlace, writeLength, given, numbersGiven, writeVerdict, Write};
 ghost use Rattle.writer.specs.Steps.{PutRoom, ColumnPut, HeadRoom, HeadPut, TimesRoom, TimesPut, FillingPut, Writable};
 use bits::put;
 use rail::Refusal;
 use rail::Verdict;
+use sheet::checks::check_lengths;
 use sheet::checks::check_numbers;
 use sheet::checks::check_ranges;
 use sheet::format::Column;
@@ -52,33 +54,6 @@ impl Writing {
     }
 }
 
-// The lengths of the four lists.
-fn check_lists(
-    m: u32,
-    departures: usize,
-    driving: usize,
-    delays: usize,
-    passengers: usize,
-) -> Verdict
-    requires { ⌜ m ≤ 64 ⌝ }
-    ensures { λ r. ⌜ r ≡ listsVerdict m departures driving delays passengers ⌝ }
-{
-    let n = m as usize;
-    if departures != n {
-        return Verdict::Refused(Refusal::ListLength);
-    }
-    if driving != n {
-        return Verdict::Refused(Refusal::ListLength);
-    }
-    if delays != n {
-        return Verdict::Refused(Refusal::ListLength);
-    }
-    if passengers != pairs_of(n) {
-        return Verdict::Refused(Refusal::ListLength);
-    }
-    Verdict::Fine
-}
-
 // All checks of write, in their order; `room` is the length of the output.
 fn check_write(
     room: usize,
@@ -89,7 +64,7 @@ fn check_write(
     delays: &[u32],
     passengers: &[u32],
 ) -> Verdict
-    ensures { λ r. ⌜ r ≡ writeVerdict room (given m period (now (departures .entry)) (now (driving .entry)) (now (delays .entry)) (now (passengers .entry))) ⌝ }
+    ensures { λ r. ⌜ r ≡ writeVerdict room (given m period (lists (now (departures .entry)) (now (driving .entry)) (now (delays .entry)) (now (passengers .entry)))) ⌝ }
 {
     if room != 3907 {
         return Verdict::Refused(Refusal::BufferLength);
@@ -98,15 +73,19 @@ fn check_write(
     if let Verdict::Refused(_) = ranges {
         return ranges;
     }
-    let lists = check_lists(
-        m,
-        departures.len(),
-        driving.len(),
-        delays.len(),
-        passengers.len(),
+    let n = m as usize;
+    let pairs = pairs_of(n);
+    let lengths = check_lengths(
+        Refusal::ListLength,
+        n,
+        pairs,
+        departures,
+        driving,
+        delays,
+        passengers,
     );
-    if let Verdict::Refused(_) = lists {
-        return lists;
+    if let Verdict::Refused(_) = lengths {
+        return lengths;
     }
     check_numbers(m, departures, driving, delays, passengers)
 }
@@ -165,8 +144,8 @@ fn put_sheet(
     delays: &[u32],
     passengers: &[u32],
 )
-    requires { ⌜ Writable (given m period (now departures) (now driving) (now delays) (now passengers)) (now sheet) ⌝ }
-    ensures { λ _. ⌜ SheetOf (numbersGiven (given m period (now (departures .entry)) (now (driving .entry)) (now (delays .entry)) (now (passengers .entry)))) (now (sheet .exit)) ⌝ }
+    requires { ⌜ Writable (given m period (lists (now departures) (now driving) (now delays) (now passengers))) (now sheet) ⌝ }
+    ensures { λ _. ⌜ SheetOf (numbersGiven (given m period (lists (now (departures .entry)) (now (driving .entry)) (now (delays .entry)) (now (passengers .entry))))) (now (sheet .exit)) ⌝ }
 {
     put_head(sheet, m, period);
     put_times(sheet, m, departures, driving, delays);
@@ -189,7 +168,7 @@ pub fn write(
     passengers: &[u32],
     sheet: &mut [u8],
 ) -> Writing
-    ensures { λ r. ⌜ Write (given m period (now (departures .entry)) (now (driving .entry)) (now (delays .entry)) (now (passengers .entry))) (now (sheet .entry)) (now (sheet .exit)) r ⌝ }
+    ensures { λ r. ⌜ Write (given m period (lists (now (departures .entry)) (now (driving .entry)) (now (delays .entry)) (now (passengers .entry)))) (now (sheet .entry)) (now (sheet .exit)) r ⌝ }
 {
     let verdict = check_write(
         sheet.len(),

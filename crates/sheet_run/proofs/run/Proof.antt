@@ -48,4 +48,3 @@ run-spec =
     loop-less
     loop-again
     returns-2)
-

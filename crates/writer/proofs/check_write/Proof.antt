@@ -1,17 +1,26 @@
 -- `writer::check_write` meets its contract: the first check that refuses, else the verdict on the numbers.
 -- Assumes nothing.
 use borrow.Author.Needs.{needs}
-use mathlib.Core.Path.{_≡_, refl, sym, _∙_}
+use mathlib.Core.Path.{_≡_, refl, sym, ap, _∙_}
+use Prim.Native.Nat.{ℕ}
 use native.Mathlib.Omega.{arith}
-use lib.ListN.{length}
+use Rattle.rail.specs.declared.Refusal.the-variants.{ListLength}
 use Rattle.rail.specs.declared.Verdict.the-variants.{Fine}
 use Rattle.rail.proofs.Checks.{unlike, alike, then-stop, then-pass}
-use Rattle.sheet.proofs.Facts.{ranges-of-fine}
-use Rattle.sheet.specs.Checks.{rangesVerdict}
-use Rattle.writer.specs.Write.{listsVerdict, writeVerdict}
-use Rattle.writer.proofs.Facts.{lengths-of-fine}
+use Rattle.sheet.specs.Format.{pairsOf}
+use Rattle.sheet.specs.Numbers.{lists}
+use Rattle.sheet.specs.Checks.{lengthsVerdict, rangesVerdict}
+use Rattle.sheet.proofs.Facts.{lengths-of-fine, ranges-of-fine}
+use Rattle.writer.specs.Write.{writeVerdict}
 use Rattle.writer.proofs.check_write.Statement.{statement}
 use Rattle.writer.proofs.check_write.Tie as tie
+
+-- from where m and T are checked back to the entry, and from where the lengths are
+abbrev entry-of : tie.After-check-ranges → tie.Start
+entry-of c = c .before .before .before .before .before .before
+
+abbrev ranges-of : tie.After-check-lengths → tie.After-check-ranges
+ranges-of c = c .before .before .before .before
 
 returns : tie.Need-returns
 unfolding writeVerdict
@@ -25,52 +34,61 @@ enum-told c = search needs
 
 returns-2 : tie.Need-returns-2
 unfolding writeVerdict
-returns-2 c = alike _ _ _ _ _ (omega arith) (then-stop _ _ (c .enum-told .given .1) (c .before .before .check-ranges .ensures))
+returns-2 c =
+    alike _ _ _ _ _ (omega arith) (then-stop _ _ (c .enum-told .given .1) (c .before .before .check-ranges .ensures))
 
 enum-told-2 : tie.Need-enum-told-2
 enum-told-2 c = search needs
 
 -- m and T passed
 right-ranges : (c : tie.After-enum-told2) →
-    let start = c .before .before .before .before .before .before .before .before .args in
-    rangesVerdict (start .m) (start .period) ≡ Fine
+    let start = entry-of (c .before .before) .args in rangesVerdict (start .m) (start .period) ≡ Fine
 right-ranges c = sym (c .before .before .check-ranges .ensures) ∙ c .enum-told2 .given .1
 
-check-lists-requires : tie.Need-check-lists-requires
-check-lists-requires c κs = ranges-of-fine _ _ (right-ranges c) .trains-most
+pairs-of-requires : tie.Need-pairs-of-requires
+pairs-of-requires c κs = ranges-of-fine _ _ (right-ranges c) .trains-most
+
+check-lengths-requires : tie.Need-check-lengths-requires
+check-lengths-requires c κs = search needs
 
 enum-told-3 : tie.Need-enum-told-3
 enum-told-3 c = search needs
+
+-- what the lengths are compared with
+lengths-are : (c : tie.After-check-lengths) →
+    let start = entry-of (ranges-of c) .args in
+    let given = lists (start .departures .now) (start .driving .now) (start .delays .now) (start .passengers .now) in
+    c .check-lengths .result ≡ lengthsVerdict ListLength (start .m) (pairsOf (start .m)) given
+lengths-are c =
+    let start = entry-of (ranges-of c) .args in
+    let given = lists (start .departures .now) (start .driving .now) (start .delays .now) (start .passengers .now) in
+    c .check-lengths .ensures ∙ ap (λ (k : ℕ). lengthsVerdict ListLength (start .m) k given) (c .before .pairs-of .ensures)
 
 returns-3 : tie.Need-returns-3
 unfolding writeVerdict
 returns-3 c =
     let checked = c .before .before in
     alike _ _ _ _ _ (omega arith)
-    (then-pass _ _ _ (right-ranges (checked .before))
-    (then-stop _ _ (c .enum-told3 .given .1) (checked .check-lists .ensures)))
+    (then-pass _ _ _ (right-ranges (checked .before .before))
+    (then-stop _ _ (c .enum-told3 .given .1) (lengths-are checked)))
 
 enum-told-4 : tie.Need-enum-told-4
 enum-told-4 c = search needs
 
--- the lists passed
-right-lists : (c : tie.After-enum-told4) →
-    let start = c .before .before .before .before .before .before .before .before .before .before .before .args in
-    listsVerdict (start .m) (length (start .departures .now)) (length (start .driving .now)) (length (start .delays .now)) (length (start .passengers .now)) ≡ Fine
-right-lists c = sym (c .before .before .check-lists .ensures) ∙ c .enum-told4 .given .1
-
 check-numbers-requires : tie.Need-check-numbers-requires
 check-numbers-requires c κs =
-    let r = ranges-of-fine _ _ (right-ranges (c .before .before .before)) in
-    let l = lengths-of-fine _ _ _ _ _ (right-lists c) in
+    let checked = c .before .before in
+    let r = ranges-of-fine _ _ (right-ranges (checked .before .before)) in
+    let l = lengths-of-fine _ _ _ _ (sym (lengths-are checked) ∙ c .enum-told4 .given .1) in
     omega arith
 
 returns-4 : tie.Need-returns-4
 unfolding writeVerdict
 returns-4 c =
+    let checked = c .before .before .before in
     alike _ _ _ _ _ (omega arith)
-    (then-pass _ _ _ (right-ranges (c .before .before .before .before))
-    (then-pass _ _ _ (right-lists (c .before))
+    (then-pass _ _ _ (right-ranges (checked .before .before))
+    (then-pass _ _ _ (sym (lengths-are checked) ∙ c .before .enum-told4 .given .1)
     (c .check-numbers .ensures)))
 
 pub check-write-spec : {M : Type 1} → statement M
@@ -82,7 +100,8 @@ check-write-spec =
     enum-told
     returns-2
     enum-told-2
-    check-lists-requires
+    pairs-of-requires
+    check-lengths-requires
     enum-told-3
     returns-3
     enum-told-4

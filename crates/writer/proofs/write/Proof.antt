@@ -1,14 +1,15 @@
 -- `writer::write` meets its contract: all checks, then the sheet into the first bytes.
 -- Assumes nothing.
 use borrow.Author.Needs.{needs}
-use mathlib.Core.Path.{_≡_, refl, sym, ap, _∙_}
+use mathlib.Core.Path.{_≡_, sym, _∙_}
 use Prim.Native.Nat.{_≤_}
 use native.Mathlib.Omega.{arith}
-use lib.ListN.{length, length-take}
+use lib.ListN.{length}
 use lib.Seq.{length-take-le}
 use Rattle.rail.specs.declared.Verdict.the-variants.{Fine}
+use Rattle.sheet.specs.Numbers.{lists}
 use Rattle.sheet.proofs.Lengths.{bytes-le}
-use Rattle.writer.specs.Write.{given, writeVerdict}
+use Rattle.writer.specs.Write.{Given, given, writeVerdict}
 use Rattle.writer.proofs.Facts.{Accepts, accepts-of-fine}
 use Rattle.writer.proofs.Outcome.{write-refused, write-accepted}
 use Rattle.writer.proofs.write.Statement.{statement}
@@ -20,6 +21,15 @@ check-write-requires c κs = search needs
 enum-known-verdict : tie.Need-enum-known-verdict
 enum-known-verdict c = search needs
 
+-- from where all is checked back to the entry, and what was given there
+abbrev entry-of : tie.After-check-write → tie.Start
+entry-of c = c .before .before .before .before .before .before
+
+abbrev given-at : tie.Start → Given
+given-at c =
+    let a = c .args in
+    given (a .m) (a .period) (lists (a .departures .now) (a .driving .now) (a .delays .now) (a .passengers .now))
+
 returns : tie.Need-returns
 returns c = write-refused _ _ (sym (c .before .verdict .given .1) ∙ c .before .before .before .check-write .ensures)
 
@@ -28,15 +38,15 @@ enum-told c = search needs
 
 -- all checks passed
 fine : (c : tie.After-enum-told) →
-    let start = c .before .before .before .before .before .before .before .before .args in
-    writeVerdict (length (start .sheet .now)) (given (start .m) (start .period) (start .departures .now) (start .driving .now) (start .delays .now) (start .passengers .now)) ≡ Fine
+    let start = entry-of (c .before .before) in
+    writeVerdict (length (start .args .sheet .now)) (given-at start) ≡ Fine
 fine c = sym (c .before .before .check-write .ensures) ∙ c .enum-told .given .1
 
 bytes-of-requires : tie.Need-bytes-of-requires
 bytes-of-requires c κs = accepts-of-fine _ _ (fine c) .range .trains-most
 
 -- the sheet fits the buffer
-room : (c : tie.After-bytes-of) → c .bytes-of .result ≤ length (c .before .before .before .before .before .before .before .before .before .args .sheet .now)
+room : (c : tie.After-bytes-of) → c .bytes-of .result ≤ length (entry-of (c .before .before .before) .args .sheet .now)
 room c =
     let accepts = accepts-of-fine _ _ (fine (c .before)) in
     omega (arith, c .bytes-of .ensures, accepts .room-is, bytes-le _ (accepts .range .trains-most))
@@ -52,11 +62,8 @@ put-sheet-requires c κs =
     let accepts = accepts-of-fine _ _ (fine (c .before .before)) in
     record {
       long = length-take-le _ _ (room (c .before)) ∙ c .before .bytes-of .ensures;
+      lengths = accepts .lengths;
       range = accepts .range;
-      departures = accepts .lengths .departures;
-      driving = accepts .lengths .driving;
-      delays = accepts .lengths .delays;
-      passengers = accepts .lengths .passengers;
     }
 
 same-length : tie.Need-same-length

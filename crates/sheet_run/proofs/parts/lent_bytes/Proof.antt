@@ -17,4 +17,3 @@ returns-2 c = search needs
 
 pub lent-bytes-spec : {M : Type 1} → statement M
 lent-bytes-spec = tie.close (tie.spec slice-aggregate-result returns returns-2)
-

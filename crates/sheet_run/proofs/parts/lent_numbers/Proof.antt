@@ -17,4 +17,3 @@ returns-2 c = search needs
 
 pub lent-numbers-spec : {M : Type 1} → statement M
 lent-numbers-spec = tie.close (tie.spec slice-aggregate-result returns returns-2)
-

@@ -1,30 +1,26 @@
--- `writer::check_lists` meets its contract: each answer is the first check that refuses.
+-- `checks::check_lengths` meets its contract: each answer is the first check that refuses.
 -- Assumes nothing.
-use borrow.Author.Needs.{needs}
 use mathlib.Core.Path.{refl}
 use native.Mathlib.Omega.{arith}
 use Rattle.rail.proofs.Checks.{unlike, alike}
-use Rattle.writer.specs.Write.{listsVerdict}
-use Rattle.writer.proofs.check_lists.Statement.{statement}
-use Rattle.writer.proofs.check_lists.Tie as tie
+use Rattle.sheet.specs.Checks.{lengthsVerdict}
+use Rattle.sheet.proofs.checks.check_lengths.Statement.{statement}
+use Rattle.sheet.proofs.checks.check_lengths.Tie as tie
 
 returns : tie.Need-returns
-unfolding listsVerdict
+unfolding lengthsVerdict
 returns c = unlike _ _ _ _ (omega arith)
 
 returns-2 : tie.Need-returns-2
-unfolding listsVerdict
+unfolding lengthsVerdict
 returns-2 c = alike _ _ _ _ _ (omega arith) (unlike _ _ _ _ (omega arith))
 
 returns-3 : tie.Need-returns-3
-unfolding listsVerdict
+unfolding lengthsVerdict
 returns-3 c = alike _ _ _ _ _ (omega arith) (alike _ _ _ _ _ (omega arith) (unlike _ _ _ _ (omega arith)))
 
-pairs-of-requires : tie.Need-pairs-of-requires
-pairs-of-requires c κs = search needs
-
 returns-4 : tie.Need-returns-4
-unfolding listsVerdict
+unfolding lengthsVerdict
 returns-4 c =
     alike _ _ _ _ _ (omega arith)
     (alike _ _ _ _ _ (omega arith)
@@ -32,7 +28,7 @@ returns-4 c =
     (unlike _ _ _ _ (omega arith))))
 
 returns-5 : tie.Need-returns-5
-unfolding listsVerdict
+unfolding lengthsVerdict
 returns-5 c =
     alike _ _ _ _ _ (omega arith)
     (alike _ _ _ _ _ (omega arith)
@@ -40,6 +36,5 @@ returns-5 c =
     (alike _ _ _ _ _ (omega arith)
     refl)))
 
-pub check-lists-spec : {M : Type 1} → statement M
-check-lists-spec =
-    tie.close (tie.spec returns returns-2 returns-3 pairs-of-requires returns-4 returns-5)
+pub check-lengths-spec : {M : Type 1} → statement M
+check-lengths-spec = tie.close (tie.spec returns returns-2 returns-3 returns-4 returns-5)
