@@ -1,4 +1,5 @@
-// Lists that a loop fills place by place. The laws in proofs/ serve every loop of the project, at any element.
+// Lists that a loop fills place by place. The laws in proofs/ serve every loop of the project, at
+// any element.
 ghost use mathlib.Core.Path.{_≡_};
 ghost use lib.ListN.{length, replicate};
 

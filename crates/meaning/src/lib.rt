@@ -1,1 +1,2 @@
-// One meaning: every accepted sheet comes back bit for bit. No code; the statements are in specs/, their proofs in proofs/.
+// One meaning: every accepted sheet comes back bit for bit. No code; the statements are in specs/,
+// their proofs in proofs/.

@@ -42,7 +42,8 @@ impl Station {
     }
 }
 
-// Why an input is refused. The place, where there is one, is a train, a passenger field from 1, or a row of cells from 1.
+// Why an input is refused. The place, where there is one, is a train, a passenger field from 1, or
+// a row of cells from 1.
 pub enum Refusal {
     // a lent buffer has another length than stated
     BufferLength,

@@ -8,7 +8,8 @@ ghost use Rattle.lists.specs.Filled.{Filled};
 ghost use Rattle.sheet.specs.Format.{trainsOf, periodOf, entry, passengerColumn, pairsOf};
 ghost use Rattle.sheet.specs.Numbers.{lists};
 ghost use Rattle.sheet.specs.Checks.{headVerdict, fillingVerdict, bodyVerdict};
-ghost use Rattle.reader.specs.Read.{readNumber, readPlace, readTrains, readPeriod, readingOf, Read};
+ghost use Rattle.reader.specs.Read.{readNumber, readPlace, readTrains, readPeriod, readingOf};
+ghost use Rattle.reader.specs.Read.{Read};
 ghost use Rattle.reader.specs.Decode.{ColumnRoom, Head, ColumnsOf, Decoding, Fits, Stored};
 use bits::field;
 use lists::copy_u32;
@@ -82,7 +83,8 @@ pub struct Decoded {
 
 // Under 3 bytes; m and T; shorter or longer than m demands.
 fn read_head(sheet: &[u8]) -> Reading
-    ensures { λ r. ⌜ r ≡ readingOf (headVerdict (now (sheet .entry))) (trainsOf (now (sheet .entry))) (periodOf (now (sheet .entry))) ⌝ }
+    ensures { λ r. ⌜ r ≡ readingOf (headVerdict (now (sheet .entry)))
+        (trainsOf (now (sheet .entry))) (periodOf (now (sheet .entry))) ⌝ }
 {
     if sheet.len() < 3 {
         return Reading::Refused(Refusal::NoHead);
@@ -106,7 +108,8 @@ fn read_head(sheet: &[u8]) -> Reading
 // The first `n` places of `list` become those of the column.
 fn read_column(list: &mut [u32], sheet: &[u8], column: Column, n: usize)
     requires { ⌜ ColumnRoom (now sheet) column n (length (now list)) ⌝ }
-    ensures { λ _. ⌜ Filled 0 (entry (now (sheet .entry)) column) n (now (list .entry)) (now (list .exit)) ⌝ }
+    ensures { λ _. ⌜ Filled 0 (entry (now (sheet .entry)) column) n (now (list .entry))
+        (now (list .exit)) ⌝ }
 {
     let first = column.first;
     let step = column.step;
@@ -206,7 +209,8 @@ fn answer_of(verdict: Verdict, m: u32, period: u32) -> Reading
 // The columns behind a head that passed, with the verdict on them.
 fn decode_body(sheet: &[u8], m: u32, period: u32) -> Decoded
     requires { ⌜ Head (now sheet) m ⌝ }
-    ensures { λ r. ⌜ (r .answer ≡ readingOf (bodyVerdict (now (sheet .entry))) m period) × ColumnsOf (now (sheet .entry)) (r .columns) ⌝ }
+    ensures { λ r. ⌜ (r .answer ≡ readingOf (bodyVerdict (now (sheet .entry))) m period) ×
+        ColumnsOf (now (sheet .entry)) (r .columns) ⌝ }
 {
     let columns = read_columns(sheet, m as usize);
     let answer = answer_of(check_body(sheet, m, columns), m, period);
@@ -235,8 +239,12 @@ fn store(
     delays: &mut [u32],
     passengers: &mut [u32],
 )
-    requires { ⌜ Fits columns (lists (now departures) (now driving) (now delays) (now passengers)) ⌝ }
-    ensures { λ _. ⌜ Stored columns (lists (now (departures .exit)) (now (driving .exit)) (now (delays .exit)) (now (passengers .exit))) ⌝ }
+    requires { ⌜ Fits columns (lists (now departures) (now driving) (now delays) (now passengers))
+        ⌝ }
+    ensures { λ _. ⌜ Stored columns
+        (lists (now (departures .exit)) (now (driving .exit))
+        (now (delays .exit)) (now (passengers .exit)))
+        ⌝ }
 {
     let from = columns.departures;
     copy_u32(departures, &from);
@@ -256,7 +264,12 @@ pub fn read(
     delays: &mut [u32],
     passengers: &mut [u32],
 ) -> Reading
-    ensures { λ r. ⌜ Read (now (sheet .entry)) (lists (now (departures .entry)) (now (driving .entry)) (now (delays .entry)) (now (passengers .entry))) (lists (now (departures .exit)) (now (driving .exit)) (now (delays .exit)) (now (passengers .exit))) r ⌝ }
+    ensures { λ r. ⌜ Read (now (sheet .entry))
+        (lists (now (departures .entry)) (now (driving .entry))
+        (now (delays .entry)) (now (passengers .entry)))
+        (lists (now (departures .exit)) (now (driving .exit))
+        (now (delays .exit)) (now (passengers .exit)))
+        r ⌝ }
 {
     let lengths = check_lengths(
         Refusal::BufferLength,

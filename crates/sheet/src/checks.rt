@@ -5,7 +5,8 @@ ghost use lib.ListN.{length};
 ghost use Rattle.lists.specs.Run.{nth};
 ghost use Rattle.rail.specs.Verdict.{firstOf};
 ghost use Rattle.sheet.specs.Numbers.{lists, timesIn};
-ghost use Rattle.sheet.specs.Checks.{lengthsVerdict, rangesVerdict, earliestOf, trainVerdict, passengersVerdict, numbersVerdict, TrainRoom, Room};
+ghost use Rattle.sheet.specs.Checks.{lengthsVerdict, rangesVerdict, earliestOf, trainVerdict};
+ghost use Rattle.sheet.specs.Checks.{passengersVerdict, numbersVerdict, TrainRoom, Room};
 use crate::format::pairs_of;
 use rail::Refusal;
 use rail::Train;
@@ -21,7 +22,10 @@ pub fn check_lengths(
     delays: &[u32],
     passengers: &[u32],
 ) -> Verdict
-    ensures { λ r. ⌜ r ≡ lengthsVerdict refusal n k (lists (now (departures .entry)) (now (driving .entry)) (now (delays .entry)) (now (passengers .entry))) ⌝ }
+    ensures { λ r. ⌜ r ≡ lengthsVerdict refusal n k
+        (lists (now (departures .entry)) (now (driving .entry))
+        (now (delays .entry)) (now (passengers .entry)))
+        ⌝ }
 {
     if departures.len() != n {
         return Verdict::Refused(refusal);
@@ -57,10 +61,13 @@ pub fn check_ranges(m: u32, period: u32) -> Verdict
     Verdict::Fine
 }
 
-// The earliest minute at which a train may leave: when its feeder is planned to arrive. Train 1 has none and may leave at 0.
+// The earliest minute at which a train may leave: when its feeder is planned to arrive. Train 1 has
+// none and may leave at 0.
 fn earliest(train: Train, departures: &[u32], driving: &[u32], delays: &[u32]) -> u64
     requires { ⌜ TrainRoom (train .0) (now departures) (now driving) (now delays) ⌝ }
-    ensures { λ r. ⌜ r ≡ earliestOf (timesIn (now (departures .entry)) (now (driving .entry)) (now (delays .entry))) (train .0) ⌝ }
+    ensures { λ r. ⌜ r ≡ earliestOf
+        (timesIn (now (departures .entry)) (now (driving .entry)) (now (delays .entry)))
+        (train .0) ⌝ }
 {
     if 1 < train.0 {
         let k = train.leaves().feeder().index();
@@ -73,7 +80,9 @@ fn earliest(train: Train, departures: &[u32], driving: &[u32], delays: &[u32]) -
 // One train: departure, driving time, source delay, slack.
 fn check_train(train: Train, departures: &[u32], driving: &[u32], delays: &[u32]) -> Verdict
     requires { ⌜ TrainRoom (train .0) (now departures) (now driving) (now delays) ⌝ }
-    ensures { λ r. ⌜ r ≡ trainVerdict (timesIn (now (departures .entry)) (now (driving .entry)) (now (delays .entry))) (train .0) ⌝ }
+    ensures { λ r. ⌜ r ≡ trainVerdict
+        (timesIn (now (departures .entry)) (now (driving .entry)) (now (delays .entry)))
+        (train .0) ⌝ }
 {
     let k = train.index();
     if 2879 < departures[k] {
@@ -95,7 +104,10 @@ fn check_train(train: Train, departures: &[u32], driving: &[u32], delays: &[u32]
 // Trains 1 to `m`, one after the other.
 fn check_trains(m: u32, departures: &[u32], driving: &[u32], delays: &[u32]) -> Verdict
     requires { ⌜ TrainRoom m (now departures) (now driving) (now delays) ⌝ }
-    ensures { λ r. ⌜ r ≡ firstOf (trainVerdict (timesIn (now (departures .entry)) (now (driving .entry)) (now (delays .entry)))) 1 m ⌝ }
+    ensures { λ r. ⌜ r ≡ firstOf
+        (trainVerdict
+        (timesIn (now (departures .entry)) (now (driving .entry)) (now (delays .entry))))
+        1 m ⌝ }
 {
     let mut i = 1;
     while i <= m {
@@ -132,7 +144,9 @@ pub fn check_numbers(
     passengers: &[u32],
 ) -> Verdict
     requires { ⌜ Room m (lists (now departures) (now driving) (now delays) (now passengers)) ⌝ }
-    ensures { λ r. ⌜ r ≡ numbersVerdict m (timesIn (now (departures .entry)) (now (driving .entry)) (now (delays .entry))) (nth (now (passengers .entry))) ⌝ }
+    ensures { λ r. ⌜ r ≡ numbersVerdict m
+        (timesIn (now (departures .entry)) (now (driving .entry)) (now (delays .entry)))
+        (nth (now (passengers .entry))) ⌝ }
 {
     let trains = check_trains(m, departures, driving, delays);
     if let Verdict::Refused(_) = trains {

@@ -1,9 +1,11 @@
 // Where the fields of a sheet stand, and how long a sheet is.
 ghost use mathlib.Core.Path.{_≡_};
 ghost use Prim.Native.Nat.{_≤_};
-ghost use Rattle.sheet.specs.Format.{departureColumn, drivingColumn, delayColumn, passengerColumn, bitsOf, bytesOf, pairsOf};
+ghost use Rattle.sheet.specs.Format.{departureColumn, drivingColumn, delayColumn};
+ghost use Rattle.sheet.specs.Format.{passengerColumn, bitsOf, bytesOf, pairsOf};
 
-// Fields of one width at equal distances: `width` bits from bit `first`, and again every `step` bits.
+// Fields of one width at equal distances: `width` bits from bit `first`, and again every `step`
+// bits.
 pub struct Column {
     pub first: usize,
     pub step: usize,

@@ -1,5 +1,6 @@
 // Runs read and write on records from a file descriptor and prints what they answer and leave.
-// A record is a name ('N'), a sheet to read ('R') or numbers to write ('W'); tests/sheets.py gives their form.
+// A record is a name ('N'), a sheet to read ('R') or numbers to write ('W'); tests/sheets.py gives
+// their form.
 mod parts;
 mod reads;
 mod source;

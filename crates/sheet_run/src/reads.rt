@@ -62,7 +62,8 @@ fn pairs(m: usize) -> usize {
     if m <= 64 { pairs_of(m) } else { 0 }
 }
 
-// An accepted sheet is written again from the first m places of three lists and the first m(m+1)/2 of the fourth.
+// An accepted sheet is written again from the first m places of three lists and the first m(m+1)/2
+// of the fourth.
 fn back(
     sheet: &[u8],
     r: Reading,

@@ -1,4 +1,5 @@
-// What a list holds, as one number: each place times what stands there, places counted from 1. From the last place down, the
+// What a list holds, as one number: each place times what stands there, places counted from 1. From
+// the last place down, the
 // sum of what stands behind is added once for each place.
 ghost use Prim.Native.Nat.{_<_};
 
@@ -10,7 +11,8 @@ struct Sum {
 
 // One place more in front.
 fn with(sum: Sum, value: u64) -> Sum
-    requires { ⌜ (sum .total < 1000000000000000000) × ((sum .tail < 1000000000000000000) × (value < 4294967296)) ⌝ }
+    requires { ⌜ (sum .total < 1000000000000000000) ×
+        ((sum .tail < 1000000000000000000) × (value < 4294967296)) ⌝ }
     ensures { λ r. ⌜ (r .total < 1000000000000000000) × (r .tail < 1000000000000000000) ⌝ }
 {
     let tail = (sum.tail + value) % 1000000000000000000;

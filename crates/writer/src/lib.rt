@@ -6,8 +6,10 @@ ghost use lib.ListN.{length};
 ghost use Rattle.sheet.specs.Format.{bytesOf};
 ghost use Rattle.sheet.specs.Numbers.{lists};
 ghost use Rattle.sheet.specs.Accepted.{SheetOf};
-ghost use Rattle.writer.specs.Write.{writeNumber, writePlace, writeLength, given, numbersGiven, writeVerdict, Write};
-ghost use Rattle.writer.specs.Steps.{PutRoom, ColumnPut, HeadRoom, HeadPut, TimesRoom, TimesPut, FillingPut, Writable};
+ghost use Rattle.writer.specs.Write.{writeNumber, writePlace, writeLength, given};
+ghost use Rattle.writer.specs.Write.{numbersGiven, writeVerdict, Write};
+ghost use Rattle.writer.specs.Steps.{PutRoom, ColumnPut, HeadRoom, HeadPut, TimesRoom};
+ghost use Rattle.writer.specs.Steps.{TimesPut, FillingPut, Writable};
 use bits::put;
 use rail::Refusal;
 use rail::Verdict;
@@ -64,7 +66,11 @@ fn check_write(
     delays: &[u32],
     passengers: &[u32],
 ) -> Verdict
-    ensures { λ r. ⌜ r ≡ writeVerdict room (given m period (lists (now (departures .entry)) (now (driving .entry)) (now (delays .entry)) (now (passengers .entry)))) ⌝ }
+    ensures { λ r. ⌜ r ≡ writeVerdict room
+        (given m period
+        (lists (now (departures .entry)) (now (driving .entry))
+        (now (delays .entry)) (now (passengers .entry))))
+        ⌝ }
 {
     if room != 3907 {
         return Verdict::Refused(Refusal::BufferLength);
@@ -93,7 +99,8 @@ fn check_write(
 // The first `n` places of the column become those of `list`.
 fn put_column(sheet: &mut [u8], column: Column, n: usize, list: &[u32])
     requires { ⌜ PutRoom (now sheet) column n (now list) ⌝ }
-    ensures { λ _. ⌜ ColumnPut (now (sheet .entry)) column n (now (list .entry)) (now (sheet .exit)) ⌝ }
+    ensures { λ _. ⌜ ColumnPut (now (sheet .entry)) column n (now (list .entry))
+        (now (sheet .exit)) ⌝ }
 {
     let first = column.first;
     let step = column.step;
@@ -117,7 +124,8 @@ fn put_head(sheet: &mut [u8], m: u32, period: u32)
 // The times of trains 1 to `m`, column by column.
 fn put_times(sheet: &mut [u8], m: u32, departures: &[u32], driving: &[u32], delays: &[u32])
     requires { ⌜ TimesRoom (now sheet) m (now departures) (now driving) (now delays) ⌝ }
-    ensures { λ _. ⌜ TimesPut (now (sheet .entry)) m (now (departures .entry)) (now (driving .entry)) (now (delays .entry)) (now (sheet .exit)) ⌝ }
+    ensures { λ _. ⌜ TimesPut (now (sheet .entry)) m (now (departures .entry))
+        (now (driving .entry)) (now (delays .entry)) (now (sheet .exit)) ⌝ }
 {
     let n = m as usize;
     put_column(sheet, Column::departures(), n, departures);
@@ -144,8 +152,14 @@ fn put_sheet(
     delays: &[u32],
     passengers: &[u32],
 )
-    requires { ⌜ Writable (given m period (lists (now departures) (now driving) (now delays) (now passengers))) (now sheet) ⌝ }
-    ensures { λ _. ⌜ SheetOf (numbersGiven (given m period (lists (now (departures .entry)) (now (driving .entry)) (now (delays .entry)) (now (passengers .entry))))) (now (sheet .exit)) ⌝ }
+    requires { ⌜ Writable
+        (given m period (lists (now departures) (now driving) (now delays) (now passengers)))
+        (now sheet) ⌝ }
+    ensures { λ _. ⌜ SheetOf
+        (numbersGiven (given m period
+        (lists (now (departures .entry)) (now (driving .entry))
+        (now (delays .entry)) (now (passengers .entry)))))
+        (now (sheet .exit)) ⌝ }
 {
     put_head(sheet, m, period);
     put_times(sheet, m, departures, driving, delays);
@@ -168,7 +182,11 @@ pub fn write(
     passengers: &[u32],
     sheet: &mut [u8],
 ) -> Writing
-    ensures { λ r. ⌜ Write (given m period (lists (now (departures .entry)) (now (driving .entry)) (now (delays .entry)) (now (passengers .entry)))) (now (sheet .entry)) (now (sheet .exit)) r ⌝ }
+    ensures { λ r. ⌜ Write
+        (given m period
+        (lists (now (departures .entry)) (now (driving .entry))
+        (now (delays .entry)) (now (passengers .entry))))
+        (now (sheet .entry)) (now (sheet .exit)) r ⌝ }
 {
     let verdict = check_write(
         sheet.len(),
