@@ -4,7 +4,8 @@ use mathlib.Core.Path.{_≡_, refl, sym, ap₂, subst}
 use mathlib.Core.List.{List}
 use mathlib.Core.Logic.{⊎-elim}
 use Prim.Native.Nat.{ℕ, zero, suc, _+_, _*_, _^_, _≤_, _<_}
-use native.Mathlib.Nat.{mod-lt, pow-suc, add-suc, add-zero, add-assoc, mul-assoc, not-suc-le-zero, eq-or-lt-of-le, le-of-suc-le-suc, suc-inj, lt-of-lt-of-le}
+use native.Mathlib.Nat.{mod-lt, pow-suc, add-suc, add-zero, add-assoc, mul-assoc, not-suc-le-zero, eq-or-lt-of-le}
+use native.Mathlib.Nat.{le-of-suc-le-suc, suc-inj, lt-of-lt-of-le}
 use native.Mathlib.Numerals.{add-one}
 use native.Mathlib.Omega.{arith}
 use lib.Dec.{lit<}

@@ -1,8 +1,8 @@
 -- Laws of a field that is put: fields apart from it stay, one bit, one bit more in front, and the one result.
 -- Assumes nothing.
-use mathlib.Core.Path.{_≡_, refl, sym, ap, ap₂, subst, _∙_}
+use mathlib.Core.Path.{_≡_, refl, sym, ap₂, subst, _∙_}
 use mathlib.Core.List.{List}
-use mathlib.Core.Logic.{_⊎_, inl, inr, ⊎-elim}
+use mathlib.Core.Logic.{inl, inr, ⊎-elim}
 use Prim.Native.Nat.{ℕ, _+_, _-_, _*_, _/_, _%_, _^_, _≤_, _<_}
 use native.Mathlib.Decide.{ℕ-discrete}
 use native.Mathlib.Omega.{arith}
@@ -14,7 +14,8 @@ use Rattle.bits.proofs.Fields.{field-none, field-bit, field-split, fiel
 use Rattle.bits.proofs.Bytes.{bytes-ext}
 
 -- every field that lies apart from the one put is as it was
-pub put-apart : {s t : List ℕ} {at w v : ℕ} → Put s at w v t → (a u : ℕ) → Apart a u at w → fieldOf t a u ≡ fieldOf s a u
+pub put-apart : {s t : List ℕ} {at w v : ℕ} → Put s at w v t → (a u : ℕ) → Apart a u at w
+    → fieldOf t a u ≡ fieldOf s a u
 put-apart {s} {t} {at} {w} h a u o =
     field-same t s a u
     (λ i l.
@@ -42,7 +43,8 @@ put-one s i b y l h =
     }
 
 -- one bit more in front of a field that was put
-pub put-more : {s t u : List ℕ} (at : ℕ) {w x b : ℕ} → Put s (at + 1) w x t → Put t at 1 b u → Put s at (1 + w) (b * 2 ^ w + x) u
+pub put-more : {s t u : List ℕ} (at : ℕ) {w x b : ℕ} → Put s (at + 1) w x t → Put t at 1 b u
+    → Put s at (1 + w) (b * 2 ^ w + x) u
 put-more {s} {t} {u} at {w} g h =
     record {
       long = h .long ∙ g .long;
@@ -50,7 +52,8 @@ put-more {s} {t} {u} at {w} g h =
           ∙ ap₂ (λ (m n : ℕ). m * 2 ^ w + n) (h .holds) (put-apart h (at + 1) w (inr (omega arith)) ∙ g .holds);
       others = λ i o.
           h .others i (⊎-elim (λ (p : i + 1 ≤ at). inl p) (λ (p : at + (1 + w) ≤ i). inr (omega arith)) o)
-          ∙ g .others i (⊎-elim (λ (p : i + 1 ≤ at). inl (omega arith)) (λ (p : at + (1 + w) ≤ i). inr (omega arith)) o);
+          ∙ g .others i
+          (⊎-elim (λ (p : i + 1 ≤ at). inl (omega arith)) (λ (p : at + (1 + w) ≤ i). inr (omega arith)) o);
     }
 
 -- what was put determines the bytes

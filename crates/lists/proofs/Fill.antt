@@ -1,4 +1,5 @@
--- Laws of a list that a loop fills from its first place on: the start, one place more, and the list once all are filled.
+-- Laws of a list that a loop fills from its first place on: the start, one place more, and the list once all are
+-- filled.
 -- Assumes nothing.
 use mathlib.Core.Path.{_≡_, refl, sym, ap, subst, _∙_}
 use mathlib.Core.List.{List}
@@ -40,7 +41,8 @@ module _ {A : Type 0} (d : A) (f : ℕ → A) where
       (λ k b. h .filled k (omega (arith, h .long)) ∙ sym (g k (omega (arith, h .long))))
 
 -- filled with one value
-pub filled-value : {A : Type 0} (d v : A) {n : ℕ} {old new : List A} → Filled d (λ (k : ℕ). v) n old new → length old ≤ n
+pub filled-value : {A : Type 0} (d v : A) {n : ℕ} {old new : List A} → Filled d (λ (k : ℕ). v) n old new
+    → length old ≤ n
     → new ≡ replicate (length old) v
 filled-value d v {old = old} h l =
     filled-all d _ (replicate (length old) v) h l (length-replicate (length old) v)

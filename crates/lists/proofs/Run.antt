@@ -1,8 +1,9 @@
--- Laws of a run of places, for any step: one place taken, none left, equal at equal places; and of the lists made of a run.
+-- Laws of a run of places, for any step: one place taken, none left, equal at equal places; and of the lists made of a
+-- run.
 -- A loop states what it has still to do as a run that equals its goal: `run-next` is its turn, `run-none` its end.
 -- Assumes nothing.
 use mathlib.Core.Path.{_≡_, refl, sym, ap, ap₂, subst, _∙_}
-use mathlib.Core.List.{List, [], _∷_}
+use mathlib.Core.List.{List}
 use mathlib.Core.Logic.{⊎-elim}
 use Prim.Native.Nat.{ℕ, zero, suc, _+_, _-_, _≤_, _<_}
 use native.Mathlib.Nat.{not-suc-le-zero, le-of-suc-le-suc, add-zero, zero-add}

@@ -14,7 +14,8 @@ module _ {A : Type 0} (xs : List A) (a : ℕ) (ys : List A) (fits : a + length y
 
   pub splice-before : (i : ℕ) (d : A) → i < a → getD (splice xs a ys) i d ≡ getD xs i d
   splice-before i d l =
-      List·getD-append (take a xs) (ys ++ drop (length ys) (drop a xs)) d i (omega (arith, length-take-le a xs (omega arith)))
+      List·getD-append (take a xs) (ys ++ drop (length ys) (drop a xs)) d i
+      (omega (arith, length-take-le a xs (omega arith)))
       ∙ getD-take a xs i d l
 
   from-part : (i : ℕ) (d : A) → getD (splice xs a ys) (a + i) d ≡ getD (ys ++ drop (length ys) (drop a xs)) i d

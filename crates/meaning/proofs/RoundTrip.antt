@@ -1,11 +1,12 @@
--- The round trips. What read leaves are the sheet's numbers and what write leaves is the sheet of its numbers, and the sheet
+-- The round trips. What read leaves are the sheet's numbers and what write leaves is the sheet of its numbers, and the
+-- sheet
 -- of given numbers is unique.
 -- Assumes nothing.
 use mathlib.Core.Path.{_≡_, refl, sym, ap, ap₂, subst, _∙_}
 use mathlib.Core.List.{List}
-use Prim.Native.Nat.{ℕ, _+_, _-_, _≤_, _<_}
+use Prim.Native.Nat.{ℕ, _+_, _-_, _≤_}
 use native.Mathlib.Omega.{arith}
-use lib.ListN.{length, getD, take}
+use lib.ListN.{length, take}
 use lib.Seq.{ext-getD, getD-take, length-take-le}
 use Rattle.lists.specs.Run.{nth, padded}
 use Rattle.lists.proofs.Run.{padded-length, padded-nth}
@@ -20,7 +21,7 @@ use Rattle.sheet.proofs.Facts.{fine-of-lengths, accepted-of-fine, fine-of-accep
 use Rattle.sheet.proofs.Meaning.{same-sym, in-range-same, sheet-of-one, sheet-of-accepted, accepted-sheet-of}
 use Rattle.sheet.proofs.Amend.{replaced-numbers, replaced-accepted}
 use Rattle.reader.specs.Read.{readVerdict, readingOf, Read}
-use Rattle.reader.proofs.Answers.{reading-accepted, accepted-fine}
+use Rattle.reader.proofs.Answers.{accepted-fine}
 use Rattle.writer.specs.Write.{Given, numbersGiven, writingOf, writeVerdict, Write}
 use Rattle.writer.proofs.Outcome.{written-fine}
 use Rattle.writer.proofs.Facts.{Accepts, accepts-of-fine, fine-of-accepts}
@@ -47,7 +48,8 @@ delay-stays s t i v fine least most small put =
 -- ---- read, then write
 
 -- the first n places of a list that read left, counted from 1
-first-nth : (l : List ℕ) (size n : ℕ) (f : ℕ → ℕ) → l ≡ padded size n f → n ≤ size → (i : ℕ) → 1 ≤ i → i ≤ n → nth (take n l) i ≡ f i
+first-nth : (l : List ℕ) (size n : ℕ) (f : ℕ → ℕ) → l ≡ padded size n f → n ≤ size → (i : ℕ) → 1 ≤ i → i ≤ n
+    → nth (take n l) i ≡ f i
 first-nth l size n f e k i a b =
     getD-take n l (i - 1) 0 (omega arith) ∙ ap (λ (x : List ℕ). nth x i) e ∙ padded-nth size n f i a b k
 
@@ -126,7 +128,8 @@ module _ (s : List ℕ) (after : Lists) (g : Got s after (trainsOf s) (periodOf 
       let long = g .ok .long in
       let fine : writeVerdict (length buffer) again ≡ Fine
       = ap (λ (n : ℕ). writeVerdict n again) e ∙ fine-of-accepts 3907 again again-accepts in (
-        h .answer ∙ ap (λ (v : Verdict). writingOf v (bytesOf (trainsOf s))) fine ∙ ap (λ (n : ℕ). WriteAccepted n) (sym long),
+        h .answer ∙ ap (λ (v : Verdict). writingOf v (bytesOf (trainsOf s))) fine
+            ∙ ap (λ (n : ℕ). WriteAccepted n) (sym long),
         ap (λ (n : ℕ). take n written) long ∙ sheet-of-one (numbersGiven again) _ s (h .sheet fine) (again-sheet b),
       )
 
@@ -148,7 +151,8 @@ first-same l given size n f e k long same =
     let z : j + 1 - 1 ≡ j = omega arith in
     rw z at (first-nth l size n f e k (j + 1) (omega arith) (omega arith) ∙ same (j + 1) (omega arith) (omega arith)))
 
-module _ (s : List ℕ) (before after : Lists) (a : Reading) (ok : Accepted s) (room : Lengths 64 2080 before) (h : Read s before after a) where
+module _ (s : List ℕ) (before after : Lists) (a : Reading) (ok : Accepted s) (room : Lengths 64 2080 before)
+    (h : Read s before after a) where
   read-fine : readVerdict s before ≡ Fine
   unfolding readVerdict
   read-fine =
@@ -166,14 +170,18 @@ module _ (G : Given) (s : List ℕ) (after : Lists) (accepts : Accepts 3907 G) (
       let m = same .trains in
       let long = accepts .lengths in
       let pairs = ap pairsOf m in
-      let departures : take (trainsOf s) (after .departures) ≡ G .lists .departures = first-same _ (G .lists .departures) 64 _ (departureOf s)
+      let departures : take (trainsOf s) (after .departures) ≡ G .lists .departures = first-same _
+      (G .lists .departures) 64 _ (departureOf s)
       (g .departures) n (long .departures ∙ sym m) (λ i a b. same .departure i a (omega arith)) in
-      let driving : take (trainsOf s) (after .driving) ≡ G .lists .driving = first-same _ (G .lists .driving) 64 _ (drivingOf s)
+      let driving : take (trainsOf s) (after .driving) ≡ G .lists .driving = first-same _ (G .lists .driving) 64 _
+      (drivingOf s)
       (g .driving) n (long .driving ∙ sym m) (λ i a b. same .driving i a (omega arith)) in
-      let delays : take (trainsOf s) (after .delays) ≡ G .lists .delays = first-same _ (G .lists .delays) 64 _ (delayOf s)
+      let delays : take (trainsOf s) (after .delays) ≡ G .lists .delays = first-same _ (G .lists .delays) 64 _
+      (delayOf s)
       (g .delays) n (long .delays ∙ sym m) (λ i a b. same .delay i a (omega arith)) in
       let passengers : take (pairsOf (trainsOf s)) (after .passengers) ≡ G .lists .passengers
-      = first-same _ (G .lists .passengers) 2080 _ (passengersOf s) (g .passengers) (pairs-le _ n) (long .passengers ∙ sym pairs)
+      = first-same _ (G .lists .passengers) 2080 _ (passengersOf s) (g .passengers) (pairs-le _ n)
+      (long .passengers ∙ sym pairs)
       (λ f a b. same .passengers f a (omega arith)) in
       λ i. record {
         trains = m i;

@@ -1,9 +1,11 @@
--- Each accepted sheet has one meaning and comes back bit for bit. Demand 2, its second half, over the promises of read and
+-- Each accepted sheet has one meaning and comes back bit for bit. Demand 2, its second half, over the promises of read
+-- and
 -- write alone: whatever keeps these promises does this.
 --   ReadThenWrite     what read gives of an accepted sheet, write accepts, and it writes that sheet
 --   WriteThenRead     what write wrote, read accepts, and it gives the same numbers
 --   EqualFields       two accepted sheets with equal fields are equal
---   DelayStays        one source delay of 0 to 1,440 put into an accepted sheet leaves it accepted and every other field as it was
+--   DelayStays        one source delay of 0 to 1,440 put into an accepted sheet leaves it accepted and every other
+-- field as it was
 -- Assumes nothing.
 use Prim.Native.Nat.{ℕ, _≤_}
 use mathlib.Core.Path.{_≡_}

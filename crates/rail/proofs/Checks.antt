@@ -1,4 +1,5 @@
--- Laws of checks in their order, as a function that answers a verdict uses them: a test that refused is the answer (`hit`,
+-- Laws of checks in their order, as a function that answers a verdict uses them: a test that refused is the answer
+-- (`hit`,
 -- `unlike`), a test that passed leaves the rest (`miss`, `alike`); and what a verdict that is fine tells of each check.
 -- Assumes nothing.
 use mathlib.Core.Path.{_≡_, refl, sym, ap, subst, _∙_}
@@ -119,7 +120,8 @@ module _ (f : ℕ → Verdict) (m : ℕ) where
       }
 
   -- check i refused: that is the answer
-  pub search-stop : {i : ℕ} {v : Verdict} {r : Refusal} → Searching f m i → i ≤ m → v ≡ Refused r → v ≡ f i → v ≡ firstOf f 1 m
+  pub search-stop : {i : ℕ} {v : Verdict} {r : Refusal} → Searching f m i → i ≤ m → v ≡ Refused r → v ≡ f i
+      → v ≡ firstOf f 1 m
   search-stop {i} h l p q = then-stop (f i) _ p q ∙ sym (first-next i (h .least) l) ∙ h .rest
 
   -- all passed

@@ -7,7 +7,9 @@ use Prim.Native.Nat.{ℕ}
 use mathlib.Core.Bool.{Bool, true, false}
 use Rattle.rail.specs.declared.Train.{Train}
 use Rattle.rail.specs.declared.Refusal.{Refusal}
-use Rattle.rail.specs.declared.Refusal.the-variants.{BufferLength, ListLength, NoHead, TrainCount, Period, TooShort, TooLong, Departure, Driving, SourceDelay, Slack, Passengers, Filling, NoSuchTrain, NewDelay, CellOverLimit}
+use Rattle.rail.specs.declared.Refusal.the-variants.{BufferLength, ListLength, NoHead, TrainCount, Period}
+use Rattle.rail.specs.declared.Refusal.the-variants.{TooShort, TooLong, Departure, Driving, SourceDelay, Slack}
+use Rattle.rail.specs.declared.Refusal.the-variants.{Passengers, Filling, NoSuchTrain, NewDelay, CellOverLimit}
 
 -- the train with this number
 abbrev pub train : ℕ → Train

@@ -1,4 +1,5 @@
--- Checks in their order: each refuses by name or lets the next one speak. Document 01, "Numbers of refusal, in the order of checking".
+-- Checks in their order: each refuses by name or lets the next one speak. Document 01, "Numbers of refusal, in the
+-- order of checking".
 --   refuse r when a below b   refused for r where a is less than b, else fine
 --   refuse r unless a is b    refused for r where a differs from b, else fine
 --   v andThen w               what v says if it refuses, else what w says

@@ -6,7 +6,6 @@ use Prim.Native.Nat.{ℕ}
 use Rattle.rail.specs.declared.Refusal.{Refusal}
 use Rattle.rail.specs.declared.Verdict.{Verdict}
 use Rattle.rail.specs.declared.Verdict.the-variants.{Fine, Refused}
-use Rattle.reader.specs.declared.Reading.{Reading}
 use Rattle.reader.specs.declared.Reading.the-variants.{Accepted, Refused as ReadRefused}
 use Rattle.reader.specs.Read.{readingOf}
 
@@ -14,7 +13,8 @@ pub reading-refused : (v : Verdict) (m T : ℕ) {r : Refusal} → Refused r ≡ 
 reading-refused v m T e = ap (λ (u : Verdict). readingOf u m T) e
 
 pub reading-accepted : (v : Verdict) {m m′ T T′ : ℕ} → Fine ≡ v → m ≡ m′ → T ≡ T′ → Accepted m T ≡ readingOf v m′ T′
-reading-accepted v {m′ = m′} {T′ = T′} e p q = ap₂ (λ (a b : ℕ). Accepted a b) p q ∙ ap (λ (u : Verdict). readingOf u m′ T′) e
+reading-accepted v {m′ =
+    m′} {T′ = T′} e p q = ap₂ (λ (a b : ℕ). Accepted a b) p q ∙ ap (λ (u : Verdict). readingOf u m′ T′) e
 
 -- an answer that accepts tells that the verdict is fine
 pub accepted-fine : (v : Verdict) (M P : ℕ) {m T : ℕ} → Accepted m T ≡ readingOf v M P → (v ≡ Fine) × (m ≡ M) × (T ≡ P)

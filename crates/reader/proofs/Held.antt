@@ -1,16 +1,14 @@
 -- The columns of a sheet hold its numbers, and their fields lie within the sheet.
 -- Assumes nothing.
-use mathlib.Core.Path.{_≡_, refl, sym, ap, subst, _∙_}
+use mathlib.Core.Path.{_≡_, refl, ap, _∙_}
 use mathlib.Core.List.{List}
-use Prim.Native.Nat.{ℕ, _+_, _*_, _≤_, _<_}
+use Prim.Native.Nat.{ℕ, _+_, _≤_}
 use native.Mathlib.Omega.{arith}
 use lib.Dec.{lit≤}
-use lib.ListN.{length}
-use Rattle.bits.specs.Field.{Within}
 use Rattle.lists.specs.Run.{padded, nth}
 use Rattle.lists.proofs.Run.{padded-length, padded-nth}
-use Rattle.sheet.specs.Format.{trainsOf, periodOf, departureOf, drivingOf, delayOf, passengersOf, passengerColumn, pairsOf}
-use Rattle.sheet.specs.declared.format.Column.{Column}
+use Rattle.sheet.specs.Format.{trainsOf, periodOf, departureOf, drivingOf, delayOf, passengersOf, passengerColumn}
+use Rattle.sheet.specs.Format.{pairsOf}
 use Rattle.sheet.specs.Numbers.{lists, numbersOf, numbersIn}
 use Rattle.sheet.specs.Checks.{Room}
 use Rattle.sheet.specs.Accepted.{SameNumbers}
@@ -37,7 +35,8 @@ module _ (s : List ℕ) (m : ℕ) (h : Head s m) where
       let n = h .most in
       record {
         room = pairs-le m n;
-        within = λ k c. record { inside = omega (arith, layout m); narrow = lit≤ tt; near = omega (arith, pairs-le m n) };
+        within = λ k c.
+            record { inside = omega (arith, layout m); narrow = lit≤ tt; near = omega (arith, pairs-le m n) };
       }
 
   module _ (c : Columns) (held : ColumnsOf s c) where
@@ -59,7 +58,8 @@ module _ (s : List ℕ) (m : ℕ) (h : Head s m) where
         → (i : ℕ) → 1 ≤ i → i ≤ n → nth l i ≡ f i
     nth-held l size n f e k i a b = ap (λ (x : List ℕ). nth x i) e ∙ padded-nth size n f i a b k
 
-    pub columns-same : SameNumbers (numbersIn m (periodOf s) (lists (c .departures) (c .driving) (c .delays) (c .passengers)))
+    pub columns-same : SameNumbers
+        (numbersIn m (periodOf s) (lists (c .departures) (c .driving) (c .delays) (c .passengers)))
         (numbersOf s)
     columns-same =
         let n : trainsOf s ≤ 64 = omega (arith, h .trains, h .most) in

@@ -15,7 +15,7 @@ use Rattle.sheet.specs.Accepted.{Lengths}
 use Rattle.reader.specs.declared.Reading.{Reading}
 use Rattle.reader.specs.declared.Reading.the-variants.{Accepted, Refused as ReadRefused}
 use Rattle.reader.specs.declared.Columns.{Columns}
-use Rattle.reader.specs.Read.{readNumber, readPlace, readTrains, readPeriod, readingOf, readVerdict, Read}
+use Rattle.reader.specs.Read.{readNumber, readPlace, readTrains, readPeriod, readVerdict, Read}
 use Rattle.reader.specs.Decode.{ColumnsOf, Fits, Stored}
 use Rattle.reader.proofs.Answers.{reading-refused, reading-accepted}
 

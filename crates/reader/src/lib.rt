@@ -1,11 +1,11 @@
 // Read: a sheet into four lent lists, refused by number. Each field of the sheet is read once.
 // `read` has no `requires`: any bytes and any lists get an answer.
 ghost use mathlib.Core.Path.{_≡_};
-ghost use Prim.Native.Nat.{_-_, _≤_};
+ghost use Prim.Native.Nat.{_-_};
 ghost use lib.ListN.{length};
 ghost use Rattle.lists.specs.Run.{padded};
 ghost use Rattle.lists.specs.Filled.{Filled};
-ghost use Rattle.sheet.specs.Format.{trainsOf, periodOf, entry, passengerColumn, pairsOf};
+ghost use Rattle.sheet.specs.Format.{trainsOf, periodOf, entry};
 ghost use Rattle.sheet.specs.Numbers.{lists};
 ghost use Rattle.sheet.specs.Checks.{headVerdict, fillingVerdict, bodyVerdict};
 ghost use Rattle.reader.specs.Read.{readNumber, readPlace, readTrains, readPeriod, readingOf};

@@ -1,18 +1,17 @@
 -- One source delay replaced in an accepted sheet: the sheet stays accepted, and every other field is as it was.
 -- Assumes nothing.
-use mathlib.Core.Path.{_≡_, refl, sym, ap, _∙_}
+use mathlib.Core.Path.{_≡_, sym, ap, _∙_}
 use mathlib.Core.List.{List}
-use mathlib.Core.Logic.{_⊎_, inl, inr, ⊎-elim}
+use mathlib.Core.Logic.{inl, inr, ⊎-elim}
 use Prim.Native.Nat.{ℕ, _+_, _-_, _*_, _≤_, _<_}
 use native.Mathlib.Decide.{ℕ-discrete}
 use native.Mathlib.Omega.{arith}
-use lib.ListN.{length}
 use Rattle.lists.proofs.Choice.{same-yes, same-no}
 use Rattle.lists.proofs.Order.{lt-or-ge}
-use Rattle.bits.specs.Field.{fieldOf, Apart}
+use Rattle.bits.specs.Field.{Apart}
 use Rattle.bits.proofs.Puts.{put-apart}
-use Rattle.sheet.specs.Format.{trainsOf, entry, bitsOf, bytesOf, pairsOf}
-use Rattle.sheet.specs.Numbers.{Numbers, numbersOf}
+use Rattle.sheet.specs.Format.{trainsOf, entry, bytesOf}
+use Rattle.sheet.specs.Numbers.{numbersOf}
 use Rattle.sheet.specs.Checks.{earliestOf}
 use Rattle.sheet.specs.Accepted.{InRange, Accepted, SameNumbers, withDelay, DelayReplaced}
 use Rattle.sheet.proofs.Lengths.{layout}
@@ -23,8 +22,10 @@ train-fields-apart : (a v b w i j : ℕ) → (a + v ≤ b) × (b + w ≤ a + 33)
 train-fields-apart a v b w i j h =
     ⊎-elim (λ (l : j < i). inr (omega arith)) (λ (l : i ≤ j). inl (omega arith)) (lt-or-ge j i)
 
-module _ (s t : List ℕ) (i v : ℕ) (ok : Accepted s) (least : 1 ≤ i) (most : i ≤ trainsOf s) (put : DelayReplaced s i v t) where
-  same-delay : (j : ℕ) → 1 ≤ j → j ≤ trainsOf s → numbersOf t .times .delay j ≡ withDelay (numbersOf s) i v .times .delay j
+module _ (s t : List ℕ) (i v : ℕ) (ok : Accepted s) (least : 1 ≤ i) (most : i ≤ trainsOf s)
+    (put : DelayReplaced s i v t) where
+  same-delay : (j : ℕ) → 1 ≤ j → j ≤ trainsOf s
+      → numbersOf t .times .delay j ≡ withDelay (numbersOf s) i v .times .delay j
   unfolding entry
   same-delay j a b = elim (ℕ-discrete j i) [
     | yes e ↦ rw e (put .holds) ∙ sym (same-yes _ _ e)

@@ -1,16 +1,18 @@
 -- A verdict that is fine, in plain facts: the chain of checks and `Accepted` say the same.
 -- Assumes nothing.
-use mathlib.Core.Path.{_≡_, refl, sym, ap, _∙_}
+use mathlib.Core.Path.{_≡_, refl}
 use mathlib.Core.List.{List}
-use Prim.Native.Nat.{ℕ, _+_, _≤_, _<_, zero-le}
+use Prim.Native.Nat.{ℕ, _≤_, zero-le}
 use native.Mathlib.Omega.{arith}
 use lib.ListN.{length}
 use Rattle.rail.specs.declared.Refusal.{Refusal}
 use Rattle.rail.specs.declared.Verdict.the-variants.{Fine}
-use Rattle.rail.proofs.Checks.{then-fine, fine-then, not-below, fine-not-below, is-same, fine-same, first-fine, fine-first}
-use Rattle.sheet.specs.Format.{trainsOf, periodOf, pairsOf, bitsOf, bytesOf}
+use Rattle.rail.proofs.Checks.{then-fine, fine-then, not-below, fine-not-below, is-same, fine-same, first-fine}
+use Rattle.rail.proofs.Checks.{fine-first}
+use Rattle.sheet.specs.Format.{trainsOf, periodOf, bytesOf}
 use Rattle.sheet.specs.Numbers.{Times, Numbers, Lists, numbersOf}
-use Rattle.sheet.specs.Checks.{lengthsVerdict, rangesVerdict, trainVerdict, passengersVerdict, numbersVerdict, headVerdict, fillingVerdict, bodyVerdict, sheetVerdict}
+use Rattle.sheet.specs.Checks.{lengthsVerdict, rangesVerdict, trainVerdict, passengersVerdict, numbersVerdict}
+use Rattle.sheet.specs.Checks.{headVerdict, fillingVerdict, bodyVerdict, sheetVerdict}
 use Rattle.sheet.specs.Accepted.{Lengths, TrainInRange, InRange, Accepted}
 use Rattle.sheet.proofs.Lengths.{layout, bytes-bits}
 
@@ -102,7 +104,8 @@ unfolding passengersVerdict
 fine-of-passengers p f l = fine-then (fine-not-below _ _ _ l) refl
 
 module _ (N : Numbers) where
-  pub in-range-of-fine : Ranges (N .trains) (N .period) → numbersVerdict (N .trains) (N .times) (N .passengers) ≡ Fine → InRange N
+  pub in-range-of-fine : Ranges (N .trains) (N .period) → numbersVerdict (N .trains) (N .times) (N .passengers) ≡ Fine
+      → InRange N
   unfolding numbersVerdict
   in-range-of-fine r e =
       let both = then-fine _ _ e in
@@ -181,7 +184,11 @@ fine-of-accepted s h =
     let l = h .long in
     fine-then
     (fine-of-headed s
-    (record { room = omega (arith, layout (trainsOf s)); ranges = ranges-of-in-range (numbersOf s) (h .numbers); long = l }))
+    (record {
+      room = omega (arith, layout (trainsOf s));
+      ranges = ranges-of-in-range (numbersOf s) (h .numbers);
+      long = l;
+    }))
     (fine-then (fine-of-in-range (numbersOf s) (h .numbers))
     (fine-then (fine-not-below _ _ _ (rw (h .filling) zero-le))
     refl))

@@ -1,7 +1,8 @@
--- A sheet has one meaning: two sheets of the same numbers are equal bit for bit, and a sheet is accepted exactly when its
+-- A sheet has one meaning: two sheets of the same numbers are equal bit for bit, and a sheet is accepted exactly when
+-- its
 -- numbers are in range. The fields are joined one after the other until they are the whole sheet.
 -- Assumes nothing.
-use mathlib.Core.Path.{_≡_, refl, sym, ap, ap₂, subst, _∙_}
+use mathlib.Core.Path.{_≡_, refl, sym, ap, ap₂, _∙_}
 use mathlib.Core.List.{List}
 use mathlib.Core.Logic.{⊎-elim}
 use Prim.Native.Nat.{ℕ, zero, suc, _+_, _-_, _*_, _^_, _≤_, _<_}
@@ -18,10 +19,10 @@ use Rattle.rail.specs.Verdict.{_andThen_, firstOf}
 use Rattle.bits.specs.Field.{fieldOf, Bytes}
 use Rattle.bits.proofs.Fields.{field-none, field-split}
 use Rattle.bits.proofs.Bytes.{bytes-same}
-use Rattle.sheet.specs.Format.{trainsOf, periodOf, departureColumn, drivingColumn, delayColumn, passengerColumn, entry, departureOf, passengersOf, bitsOf, bytesOf, pairsOf, fillingOf}
-use Rattle.sheet.specs.Numbers.{Times, Numbers, numbersOf}
+use Rattle.sheet.specs.Format.{trainsOf, entry, bitsOf, bytesOf, pairsOf, fillingOf}
+use Rattle.sheet.specs.Numbers.{Numbers, numbersOf}
 use Rattle.sheet.specs.Checks.{earliestOf, trainVerdict, passengersVerdict, numbersVerdict}
-use Rattle.sheet.specs.Accepted.{TrainInRange, InRange, Accepted, SameNumbers, SheetOf}
+use Rattle.sheet.specs.Accepted.{InRange, Accepted, SameNumbers, SheetOf}
 use Rattle.sheet.proofs.Lengths.{layout, bytes-bits}
 
 -- ---- numbers that are the same
@@ -62,7 +63,9 @@ earliest-same N M h i a b =
     ⊎-elim
     (λ (l : 1 < i).
     ap (λ (n : ℕ). ifBelow 1 i n 0)
-    (ap₂ (λ (m n : ℕ). m + n) (h .departure (i - 1) (omega arith) (omega arith)) (h .driving (i - 1) (omega arith) (omega arith))))
+    (ap₂ (λ (m n : ℕ). m + n)
+    (h .departure (i - 1) (omega arith) (omega arith))
+    (h .driving (i - 1) (omega arith) (omega arith))))
     (λ (l : i ≤ 1). below-no _ _ l ∙ sym (below-no _ _ l))
     (lt-or-ge 1 i)
 
@@ -82,8 +85,7 @@ pub verdict-same : (N M : Numbers) → SameNumbers N M
     → numbersVerdict (N .trains) (N .times) (N .passengers) ≡ numbersVerdict (M .trains) (M .times) (M .passengers)
 unfolding numbersVerdict firstOf
 verdict-same N M h =
-    ap (λ (m : ℕ). firstOf (trainVerdict (N .times)) 1 m andThen firstOf (passengersVerdict (N .passengers)) 1 (pairsOf m))
-    (h .trains)
+    ap (λ (m : ℕ). numbersVerdict m (N .times) (N .passengers)) (h .trains)
     ∙ ap₂ (λ (v w : Verdict). v andThen w)
     (run-same _andThen_ Fine _ _ 1 (M .trains) (λ i a b. train-verdict-same N M h i a (omega arith)))
     (run-same _andThen_ Fine _ _ 1 (pairsOf (M .trains)) (λ f a b. passengers-verdict-same N M h f a (omega arith)))

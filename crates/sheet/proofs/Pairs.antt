@@ -1,9 +1,9 @@
 -- The passenger fields 1 to m(m+1)/2 and the pairs of stations correspond one to one, in the order of document 01.
 -- Assumes nothing.
-use mathlib.Core.Path.{_≡_, refl, sym, ap, _∙_}
+use mathlib.Core.Path.{_≡_, refl, sym, ap}
 use mathlib.Core.Logic.{_⊎_, inl, inr, ⊎-elim}
 use Prim.Native.Nat.{ℕ, zero, suc, _+_, _-_, _*_, _≤_, _<_}
-use native.Mathlib.Nat.{not-suc-le-zero, mul-suc, suc-mul, mul-comm}
+use native.Mathlib.Nat.{not-suc-le-zero, mul-suc, suc-mul}
 use native.Mathlib.Omega.{arith}
 use Rattle.lists.proofs.Order.{lt-or-ge}
 use Rattle.sheet.specs.Format.{pairsOf}
@@ -47,7 +47,8 @@ module _ (m i j : ℕ) (p : IsPair m i j) where
   -- every pair has one of the fields 1 to m(m+1)/2
   pub pair-has-field : (1 ≤ fieldOfPair m i j) × (fieldOfPair m i j ≤ pairsOf m)
   pair-has-field =
-      (omega (arith, pair-after), omega (arith, pair-within, boarded-mono m i m (omega (arith, p .apart, p .most)), boarded-all m))
+      let later = boarded-mono m i m (omega (arith, p .apart, p .most)) in
+      (omega (arith, pair-after), omega (arith, pair-within, later, boarded-all m))
 
 -- by boarding station, within it by leaving station
 pub pairs-in-order : (m i j i′ j′ : ℕ) → IsPair m i j → IsPair m i′ j′ → (i < i′) ⊎ ((i ≡ i′) × (j < j′))

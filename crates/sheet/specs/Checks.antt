@@ -13,7 +13,8 @@ use mathlib.Core.List.{List}
 use lib.ListN.{length}
 use Rattle.lists.specs.Choice.{ifBelow}
 use Rattle.rail.specs.declared.Refusal.{Refusal}
-use Rattle.rail.specs.declared.Refusal.the-variants.{NoHead, TrainCount, Period, TooShort, TooLong, Departure, Driving, SourceDelay, Slack, Passengers, Filling}
+use Rattle.rail.specs.declared.Refusal.the-variants.{NoHead, TrainCount, Period, TooShort, TooLong, Departure, Driving}
+use Rattle.rail.specs.declared.Refusal.the-variants.{SourceDelay, Slack, Passengers, Filling}
 use Rattle.rail.specs.declared.Verdict.{Verdict}
 use Rattle.rail.specs.declared.Verdict.the-variants.{Fine}
 use Rattle.rail.specs.Refusal.{train}

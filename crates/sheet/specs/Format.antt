@@ -1,5 +1,7 @@
--- Where the fields of a sheet stand. Document 01, "The bit sheet": fields are packed most significant bit first, with no gaps.
--- Trains and passenger fields count from 1, bits and bytes from 0; s is the sheet, a list of bytes, and m its number of trains.
+-- Where the fields of a sheet stand. Document 01, "The bit sheet": fields are packed most significant bit first, with
+-- no gaps.
+-- Trains and passenger fields count from 1, bits and bytes from 0; s is the sheet, a list of bytes, and m its number of
+-- trains.
 --   entry s c k     the number in place k, from 0, of the column c
 --   departureOf s i, drivingOf s i, delayOf s i     of train i
 --   passengersOf s f     of passenger field f

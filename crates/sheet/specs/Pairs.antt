@@ -1,7 +1,8 @@
 -- The passenger field of a pair of stations. Document 01, "The bit sheet": passengers by boarding station, within it by
 -- leaving station. Stations and fields count from 1.
 --   IsPair m i j        (i, j) is a pair of stations of a line of m trains
---   boardedUpTo m k     the fields of those who board at stations 1 to k: m for station 1, m - 1 for station 2, and so on
+--   boardedUpTo m k     the fields of those who board at stations 1 to k: m for station 1, m - 1 for station 2, and so
+-- on
 --   fieldOfPair m i j   the field of the pair (i, j)
 -- Assumes nothing.
 use Prim.Native.Nat.{ℕ, zero, suc, _+_, _-_, _≤_, _<_}

@@ -2,8 +2,8 @@
 -- Assumes nothing.
 use mathlib.Core.Path.{_≡_, refl, subst, _∙_}
 use mathlib.Core.List.{List}
-use mathlib.Core.Logic.{_⊎_, inl, inr, ⊎-elim}
-use Prim.Native.Nat.{ℕ, suc, _+_, _*_, _≤_, _<_}
+use mathlib.Core.Logic.{inl, inr, ⊎-elim}
+use Prim.Native.Nat.{ℕ, _+_, _*_, _≤_, _<_}
 use native.Mathlib.Nat.{not-suc-le-zero, mul-le-mul-left, mul-suc}
 use native.Mathlib.Omega.{arith}
 use lib.ListN.{getD}
@@ -18,7 +18,8 @@ pub column-none : (s : List ℕ) (c : Column) (l : List ℕ) → ColumnPut s c 0
 column-none s c l = record { long = refl; holds = λ k b. absurd (not-suc-le-zero b); others = λ a w h. refl }
 
 -- an earlier place of a column ends before a later one begins
-places-apart : (c : Column) (k n : ℕ) → c .width ≤ c .step → k < n → c .first + c .step * k + c .width ≤ c .first + c .step * n
+places-apart : (c : Column) (k n : ℕ) → c .width ≤ c .step → k < n
+    → c .first + c .step * k + c .width ≤ c .first + c .step * n
 places-apart c k n s l = omega (arith, mul-le-mul-left (c .step) l, mul-suc (c .step) k)
 
 pub column-next : {s t u : List ℕ} {c : Column} {n : ℕ} {l : List ℕ} → ColumnPut s c n l t → c .width ≤ c .step

@@ -2,10 +2,10 @@
 -- Assumes nothing.
 use mathlib.Core.Path.{_≡_, refl, sym, ap, ap₂, _∙_}
 use mathlib.Core.List.{List, _++_}
-use mathlib.Core.Logic.{_⊎_, inl, inr, ⊎-elim}
-use Prim.Native.Nat.{ℕ, _≤_}
+use mathlib.Core.Logic.{⊎-elim}
+use Prim.Native.Nat.{ℕ}
 use native.Mathlib.Omega.{arith}
-use lib.ListN.{length, take, drop, take-append-drop}
+use lib.ListN.{length, drop, take-append-drop}
 use lib.Seq.{take-at, drop-at}
 use Rattle.rail.specs.declared.Refusal.{Refusal}
 use Rattle.rail.specs.declared.Verdict.{Verdict}
@@ -17,7 +17,7 @@ use Rattle.sheet.specs.Accepted.{SheetOf}
 use Rattle.sheet.proofs.Meaning.{sheet-of-one}
 use Rattle.writer.specs.declared.Writing.{Writing}
 use Rattle.writer.specs.declared.Writing.the-variants.{Accepted, Refused as WriteRefused}
-use Rattle.writer.specs.Write.{writeNumber, writePlace, writeLength, writingOf, Given, numbersGiven, writeVerdict, Write}
+use Rattle.writer.specs.Write.{writingOf, Given, numbersGiven, writeVerdict, Write}
 
 -- an answer that accepts tells that the verdict is fine
 pub written-fine : (v : Verdict) (k : ℕ) {n : ℕ} → Accepted n ≡ writingOf v k → (v ≡ Fine) × (n ≡ k)
@@ -26,7 +26,8 @@ written-fine (Refused r) k e = let z : _≡_ {A = ℕ} 0 1 = cc in let no-way : 
 
 module _ (G : Given) (before : List ℕ) where
   -- a refusal changes nothing
-  pub write-refused : {r : Refusal} → Refused r ≡ writeVerdict (length before) G → Write G before before (WriteRefused r)
+  pub write-refused : {r : Refusal} → Refused r ≡ writeVerdict (length before) G
+      → Write G before before (WriteRefused r)
   write-refused e =
       record {
         answer = ap (λ (v : Verdict). writingOf v (bytesOf (G .trains))) e;
@@ -54,7 +55,8 @@ module _ (G : Given) (before : List ℕ) where
       }
 
 -- two outcomes that keep write's promise are equal
-pub write-one : (G : Given) (before after after′ : List ℕ) (a a′ : Writing) → Write G before after a → Write G before after′ a′
+pub write-one : (G : Given) (before after after′ : List ℕ) (a a′ : Writing) → Write G before after a
+    → Write G before after′ a′
     → (a ≡ a′) × (after ≡ after′)
 write-one G before after after′ a a′ g h =
     let n : ℕ = bytesOf (G .trains) in (
@@ -62,7 +64,8 @@ write-one G before after after′ a a′ g h =
       ⊎-elim
           (λ fine.
           sym (take-append-drop n after)
-          ∙ ap₂ (λ (x y : List ℕ). x ++ y) (sheet-of-one _ _ _ (g .sheet fine) (h .sheet fine)) (g .rest fine ∙ sym (h .rest fine))
+          ∙ ap₂ (λ (x y : List ℕ). x ++ y) (sheet-of-one _ _ _ (g .sheet fine) (h .sheet fine))
+          (g .rest fine ∙ sym (h .rest fine))
           ∙ take-append-drop n after′)
           (λ refused. g .unchanged (refused .0) (refused .1) ∙ sym (h .unchanged (refused .0) (refused .1)))
           (fine-or-refused (writeVerdict (length before) G)),

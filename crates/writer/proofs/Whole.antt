@@ -1,15 +1,16 @@
--- The steps of writing, put together: what each step leaves stays under the later ones, so that the result is the sheet.
+-- The steps of writing, put together: what each step leaves stays under the later ones, so that the result is the
+-- sheet.
 -- Assumes nothing.
-use mathlib.Core.Path.{_≡_, refl, sym, ap, _∙_}
+use mathlib.Core.Path.{_≡_, _∙_}
 use mathlib.Core.List.{List}
-use mathlib.Core.Logic.{_⊎_, inl, inr, ⊎-elim}
+use mathlib.Core.Logic.{inl, inr, ⊎-elim}
 use Prim.Native.Nat.{ℕ, _+_, _-_, _*_, _^_, _≤_, _<_}
 use native.Mathlib.Omega.{arith}
 use lib.Dec.{lit≤}
 use lib.ListN.{length, getD}
 use Rattle.bits.specs.Field.{fieldOf, Apart, Bytes}
 use Rattle.bits.proofs.Puts.{put-apart}
-use Rattle.sheet.specs.Format.{trainsOf, departureColumn, drivingColumn, delayColumn, passengerColumn, entry, bitsOf, bytesOf, pairsOf}
+use Rattle.sheet.specs.Format.{trainsOf, departureColumn, drivingColumn, delayColumn, passengerColumn, entry, bytesOf}
 use Rattle.sheet.specs.Numbers.{numbersOf}
 use Rattle.sheet.specs.Accepted.{SameNumbers, SheetOf}
 use Rattle.sheet.proofs.Lengths.{layout, bytes-bits, pairs-le}
@@ -22,7 +23,8 @@ use Rattle.writer.proofs.Columns.{trains-apart}
 module _ (s t : List ℕ) (m : ℕ) (d r y : List ℕ) (h : TimesRoom s m d r y) (same : length t ≡ length s) where
   -- a column of the trains, `a` bits from the sheet's start and w bits wide
   train-column : (l : List ℕ) (a w : ℕ) → m ≤ length l → (18 ≤ a) × (a + w ≤ 51) × (w ≤ 16)
-      → ((i : ℕ) → 1 ≤ i → i ≤ m → getD l (i - 1) 0 < 2 ^ w) → PutRoom t (record { first = a; step = 33; width = w }) m l
+      → ((i : ℕ) → 1 ≤ i → i ≤ m → getD l (i - 1) 0 < 2 ^ w)
+      → PutRoom t (record { first = a; step = 33; width = w }) m l
   train-column l a w long b small =
       let room = h .room in
       let most = h .most in
@@ -34,7 +36,8 @@ module _ (s t : List ℕ) (m : ℕ) (d r y : List ℕ) (h : TimesRoom s m d r y)
       }
 
   pub departures-room : PutRoom t departureColumn m d
-  departures-room = train-column d 18 12 (h .departures) (omega arith) (λ i a b. omega (arith, h .train i a b .departure))
+  departures-room =
+      train-column d 18 12 (h .departures) (omega arith) (λ i a b. omega (arith, h .train i a b .departure))
 
   pub driving-room : PutRoom t drivingColumn m r
   driving-room = train-column r 30 10 (h .driving) (omega arith) (λ i a b. omega (arith, h .train i a b .driving))
@@ -76,7 +79,8 @@ module _ (G : Given) (s t : List ℕ) (h : Writable G s) (same : length t ≡ le
       record {
         listed = omega arith;
         spaced = lit≤ tt;
-        within = λ k c. record { inside = omega (arith, layout m); narrow = lit≤ tt; near = omega (arith, pairs-le m most) };
+        within = λ k c.
+            record { inside = omega (arith, layout m); narrow = lit≤ tt; near = omega (arith, pairs-le m most) };
         small = λ k c.
             let e : k + 1 - 1 ≡ k = omega arith in
             let in-range = h .range .passengers (k + 1) (omega arith) (omega arith) in
@@ -134,7 +138,8 @@ module _ (G : Given) (s t u v z : List ℕ) (ok : Writable G s) (head : HeadPut 
         delay = λ i a b. before-counts _ _ (omega arith) ∙ times .delay i a b;
         passengers = λ f a b.
             rw trains-put
-            (put-apart filling _ _ (inl (omega (arith, layout (G .trains)))) ∙ counts .holds (f - 1) (omega (arith, ok .lengths .passengers)));
+            (put-apart filling _ _ (inl (omega (arith, layout (G .trains))))
+            ∙ counts .holds (f - 1) (omega (arith, ok .lengths .passengers)));
       }
 
   pub sheet-put : Bytes z → SheetOf (numbersGiven G) z

@@ -1,4 +1,5 @@
--- `bits::put` meets its contract. Invariant: the last bits of the value stand, `rest` holds the others. Measure: the bits left.
+-- `bits::put` meets its contract. Invariant: the last bits of the value stand, `rest` holds the others. Measure: the
+-- bits left.
 -- Assumes nothing.
 use borrow.Author.Needs.{needs}
 use mathlib.Core.Path.{_≡_, refl, sym, ap, subst, _∙_}
@@ -41,7 +42,8 @@ putting-next {s} {t} {u} {at} {w} {v} {left} {rest} p l h =
       done = rw (e, split) (put-more (at + (left - 1)) g h);
     }
 
-putting-all : {s t : List ℕ} {at w v left rest : ℕ} → Putting s at w v left rest t → left ≡ 0 → v < 2 ^ w → Put s at w v t
+putting-all : {s t : List ℕ} {at w v left rest : ℕ} → Putting s at w v left rest t → left ≡ 0 → v < 2 ^ w
+    → Put s at w v t
 putting-all {s} {t} {at} {w} {v} p e l =
     let z : w - 0 ≡ w = omega arith in
     let h : Put s (at + 0) w (v % 2 ^ w) t = rw (e, z) at (p .done) in
@@ -69,7 +71,9 @@ loop-less : tie.Need-loop-less Inv-loop μ-loop
 loop-less c = search needs
 
 loop-again : tie.Need-loop-again Inv-loop μ-loop
-loop-again c = putting-next (c .before .before .before .before .before .loop .inv) (omega arith) (c .before .before .put-bit .ensures)
+loop-again c =
+    putting-next (c .before .before .before .before .before .loop .inv) (omega arith)
+    (c .before .before .put-bit .ensures)
 
 same-length : tie.Need-same-length Inv-loop μ-loop
 same-length c = c .before .loop .inv .done .long

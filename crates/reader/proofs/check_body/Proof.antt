@@ -2,7 +2,6 @@
 -- Assumes nothing.
 use borrow.Author.Needs.{needs}
 use mathlib.Core.Path.{_≡_, sym, _∙_}
-use native.Mathlib.Omega.{arith}
 use Rattle.rail.proofs.Checks.{then-stop, then-pass}
 use Rattle.sheet.specs.Format.{trainsOf, passengersOf}
 use Rattle.sheet.specs.Numbers.{timesOf}

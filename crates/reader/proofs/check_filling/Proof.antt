@@ -1,7 +1,7 @@
 -- `reader::check_filling` meets its contract: the filling is at most seven bits of the last byte.
 -- Assumes nothing.
 use borrow.Author.Needs.{needs}
-use mathlib.Core.Path.{_≡_, refl, ap, _∙_}
+use mathlib.Core.Path.{refl, ap, _∙_}
 use native.Mathlib.Omega.{arith}
 use Rattle.rail.proofs.Checks.{hit, miss}
 use Rattle.sheet.specs.Format.{bitsOf}
@@ -41,7 +41,8 @@ returns-2 : tie.Need-returns-2
 unfolding fillingVerdict
 returns-2 c =
     let called = c .before .before in
-    rw (← called .bits-of .ensures ∙ ap bitsOf (called .before .before .pre .trains)) (miss _ _ _ _ _ (omega arith) refl)
+    rw (← called .bits-of .ensures ∙ ap bitsOf (called .before .before .pre .trains))
+    (miss _ _ _ _ _ (omega arith) refl)
 
 pub check-filling-spec : {M : Type 1} → statement M
 check-filling-spec =

@@ -7,15 +7,14 @@ use mathlib.Core.List.{List}
 use native.Mathlib.Omega.{arith}
 use Rattle.rail.specs.declared.Refusal.{Refusal}
 use Rattle.rail.specs.declared.Verdict.{Verdict}
-use Rattle.rail.specs.declared.Verdict.the-variants.{Fine, Refused}
+use Rattle.rail.specs.declared.Verdict.the-variants.{Refused}
 use Rattle.rail.proofs.Checks.{refused-not-fine, then-stop, then-pass}
 use Rattle.sheet.specs.Format.{trainsOf, periodOf, bytesOf}
 use Rattle.sheet.specs.Checks.{headVerdict, bodyVerdict, sheetVerdict}
-use Rattle.sheet.proofs.Facts.{Headed, headed-of-fine}
+use Rattle.sheet.proofs.Facts.{headed-of-fine}
 use Rattle.reader.specs.declared.Reading.the-variants.{Accepted, Refused as ReadRefused}
-use Rattle.reader.specs.declared.Columns.{Columns}
 use Rattle.reader.specs.Read.{readingOf}
-use Rattle.reader.specs.Decode.{Head, ColumnsOf, Decoding}
+use Rattle.reader.specs.Decode.{Head}
 use Rattle.reader.proofs.Answers.{reading-refused, accepted-fine, refused-verdict}
 use Rattle.reader.proofs.decode.Statement.{statement}
 use Rattle.reader.proofs.decode.Tie as tie
@@ -44,12 +43,14 @@ module _ (s : List ℕ) {m T : ℕ} (e : Accepted m T ≡ readingOf (headVerdict
       let a = accepted-fine (headVerdict s) _ _ e in
       rw (a .1, a .2) (ap (λ (v : Verdict). readingOf v (trainsOf s) (periodOf s)) (then-pass _ _ _ (a .0) refl))
 
-head-refused : (s : List ℕ) {r : Refusal} → ReadRefused r ≡ readingOf (headVerdict s) (trainsOf s) (periodOf s) → Refused r ≡ sheetVerdict s
+head-refused : (s : List ℕ) {r : Refusal} → ReadRefused r ≡ readingOf (headVerdict s) (trainsOf s) (periodOf s)
+    → Refused r ≡ sheetVerdict s
 unfolding sheetVerdict
 head-refused s e = then-stop _ _ refl (sym (refused-verdict (headVerdict s) _ _ e))
 
 decode-body-requires : tie.Need-decode-body-requires
-decode-body-requires c κs = head-passed _ (sym (c .before .head .given .1) ∙ c .before .before .before .read-head .ensures)
+decode-body-requires c κs =
+    head-passed _ (sym (c .before .head .given .1) ∙ c .before .before .before .read-head .ensures)
 
 enum-known-head-2 : tie.Need-enum-known-head-2
 enum-known-head-2 c = search needs
@@ -67,7 +68,8 @@ returns c =
 
 returns-2 : tie.Need-returns-2
 returns-2 c =
-    let e = head-refused _ (sym (c .before .before .head2 .given .1) ∙ c .before .before .before .before .read-head .ensures) in
+    let e = head-refused _
+    (sym (c .before .before .head2 .given .1) ∙ c .before .before .before .before .read-head .ensures) in
     record { answer = reading-refused _ _ _ e; columns = λ fine. refused-not-fine (e ∙ fine) }
 
 pub decode-spec : {M : Type 1} → statement M

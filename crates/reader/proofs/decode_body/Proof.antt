@@ -19,7 +19,8 @@ answer-of-requires c κs = search needs
 returns : tie.Need-returns
 returns c =
     let start = c .before .before .before .before .args in (
-      c .answer-of .ensures ∙ ap (λ (v : Verdict). readingOf v (start .m) (start .period)) (c .before .check-body .ensures),
+      c .answer-of .ensures
+          ∙ ap (λ (v : Verdict). readingOf v (start .m) (start .period)) (c .before .check-body .ensures),
       c .before .before .read-columns .ensures,
     )
 

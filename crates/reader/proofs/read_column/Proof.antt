@@ -1,14 +1,12 @@
 -- `reader::read_column` meets its contract. Invariant: the places passed are filled. Measure: the places left.
 -- Assumes nothing.
 use borrow.Author.Needs.{needs}
-use mathlib.Core.Path.{_≡_, refl}
-use Prim.Native.Nat.{ℕ, _≤_, _-_, _+_, _*_, _<_}
+use mathlib.Core.Path.{_≡_}
+use Prim.Native.Nat.{_≤_, _-_, _+_, _*_}
 use native.Mathlib.Omega.{arith}
-use lib.ListN.{length}
 use Rattle.bits.specs.Field.{Within}
 use Rattle.lists.specs.Filled.{Filled}
 use Rattle.lists.proofs.Fill.{filled-none, filled-next}
-use Rattle.sheet.specs.declared.format.Column.{Column}
 use Rattle.sheet.specs.Format.{entry}
 use Rattle.reader.proofs.read_column.Statement.{statement}
 use Rattle.reader.proofs.read_column.Tie as tie

@@ -1,13 +1,13 @@
 -- `reader::read_columns` meets its contract: every field lies within the sheet.
 -- Assumes nothing.
 use borrow.Author.Needs.{needs}
-use mathlib.Core.Path.{_≡_, refl, sym, ap, ap₂, _∙_}
+use mathlib.Core.Path.{_≡_, ap, ap₂, _∙_}
 use mathlib.Core.List.{List}
 use Prim.Native.Nat.{ℕ, _-_}
 use lib.Dec.{lit≤}
 use Rattle.lists.specs.Run.{padded}
 use Rattle.sheet.specs.declared.format.Column.{Column}
-use Rattle.sheet.specs.Format.{trainsOf, entry, passengerColumn, pairsOf}
+use Rattle.sheet.specs.Format.{entry, passengerColumn, pairsOf}
 use Rattle.reader.proofs.Held.{train-room, passenger-room}
 use Rattle.reader.proofs.read_columns.Statement.{statement}
 use Rattle.reader.proofs.read_columns.Tie as tie
@@ -16,7 +16,8 @@ departures-requires : tie.Need-departures-requires
 departures-requires c κs = search needs
 
 read-times-requires : tie.Need-read-times-requires
-read-times-requires c κs = rw (c .departures .ensures) (train-room _ _ (c .before .before .pre) 18 12 (lit≤ tt) (lit≤ tt))
+read-times-requires c κs =
+    rw (c .departures .ensures) (train-room _ _ (c .before .before .pre) 18 12 (lit≤ tt) (lit≤ tt))
 
 driving-requires : tie.Need-driving-requires
 driving-requires c κs = search needs
@@ -30,7 +31,8 @@ delays-requires c κs = search needs
 
 read-times-requires-3 : tie.Need-read-times-requires-3
 read-times-requires-3 c κs =
-    rw (c .delays .ensures) (train-room _ _ (c .before .before .before .before .before .before .pre) 40 11 (lit≤ tt) (lit≤ tt))
+    rw (c .delays .ensures)
+    (train-room _ _ (c .before .before .before .before .before .before .pre) 40 11 (lit≤ tt) (lit≤ tt))
 
 passengers-requires : tie.Need-passengers-requires
 passengers-requires c κs = search needs
@@ -44,7 +46,8 @@ read-passengers-requires c κs =
     (passenger-room _ _ (c .before .before .before .before .before .before .before .before .before .pre))
 
 -- a list read from a column that is c, with n places
-column-is : (s l : List ℕ) (size : ℕ) {n n′ : ℕ} {c c′ : Column} → l ≡ padded size n (λ (i : ℕ). entry s c (i - 1)) → n ≡ n′ → c ≡ c′
+column-is : (s l : List ℕ) (size : ℕ) {n n′ : ℕ} {c c′ : Column} → l ≡ padded size n (λ (i : ℕ). entry s c (i - 1))
+    → n ≡ n′ → c ≡ c′
     → l ≡ padded size n′ (λ (i : ℕ). entry s c′ (i - 1))
 column-is s l size e p q = e ∙ ap₂ (λ (k : ℕ) (x : Column). padded size k (λ (i : ℕ). entry s x (i - 1))) p q
 
@@ -56,10 +59,12 @@ returns c =
     let departures = driving .before .before in
     let head = departures .before .before .before .pre in
     record {
-      departures = column-is _ _ 64 (departures .read-times .ensures) (head .trains) (departures .before .departures .ensures);
+      departures = column-is _ _ 64 (departures .read-times .ensures) (head .trains)
+          (departures .before .departures .ensures);
       driving = column-is _ _ 64 (driving .read-times2 .ensures) (head .trains) (driving .before .driving .ensures);
       delays = column-is _ _ 64 (delays .read-times3 .ensures) (head .trains) (delays .before .delays .ensures);
-      passengers = column-is _ _ 2080 (c .read-passengers .ensures) (c .before .pairs-of .ensures ∙ ap pairsOf (head .trains))
+      passengers =
+          column-is _ _ 2080 (c .read-passengers .ensures) (c .before .pairs-of .ensures ∙ ap pairsOf (head .trains))
           (passengers .passengers .ensures ∙ ap passengerColumn (head .trains));
     }
 

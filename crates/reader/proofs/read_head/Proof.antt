@@ -12,6 +12,10 @@ use Rattle.reader.proofs.Answers.{reading-refused, reading-accepted}
 use Rattle.reader.proofs.read_head.Statement.{statement}
 use Rattle.reader.proofs.read_head.Tie as tie
 
+-- from where m and T are checked back to the entry
+abbrev entry-of : tie.After-check-ranges → tie.Start
+entry-of c = c .before .before .before .before .before
+
 returns : tie.Need-returns
 unfolding headVerdict
 returns c = reading-refused _ _ _ (hit _ _ _ _ (omega arith))
@@ -32,8 +36,10 @@ returns-2 : tie.Need-returns-2
 unfolding headVerdict
 returns-2 c =
     let checked = c .before .before .before in
-    let ranges = checked .check-ranges .ensures ∙ ap₂ rangesVerdict (checked .before .before .field .ensures) (checked .before .field2 .ensures) in
-    reading-refused _ _ _ (miss _ _ _ _ _ (omega arith) (then-stop _ _ refl (sym (c .before .ranges .given .1) ∙ ranges)))
+    let ranges = checked .check-ranges .ensures
+    ∙ ap₂ rangesVerdict (checked .before .before .field .ensures) (checked .before .field2 .ensures) in
+    reading-refused _ _ _
+    (miss _ _ _ _ _ (omega arith) (then-stop _ _ refl (sym (c .before .ranges .given .1) ∙ ranges)))
 
 enum-told : tie.Need-enum-told
 enum-told c = search needs
@@ -42,7 +48,8 @@ cast-bytes-of : tie.Need-cast-bytes-of
 cast-bytes-of c = search needs
 
 -- m and T passed
-passed : (c : tie.After-enum-told) → let s = c .before .before .before .before .before .before .before .args .sheet .now in
+passed : (c : tie.After-enum-told) →
+    let s = entry-of (c .before .before) .args .sheet .now in
     rangesVerdict (trainsOf s) (periodOf s) ≡ Fine
 passed c =
     let checked = c .before .before in
@@ -51,10 +58,12 @@ passed c =
     ∙ c .enum-told .given .1
 
 bytes-of-requires : tie.Need-bytes-of-requires
-bytes-of-requires c κs = omega (arith, ranges-of-fine _ _ (passed c) .trains-most, c .before .before .before .before .field .ensures)
+bytes-of-requires c κs =
+    omega (arith, ranges-of-fine _ _ (passed c) .trains-most, c .before .before .before .before .field .ensures)
 
 -- the length that m demands
-demanded : (c : tie.After-bytes-of) → c .bytes-of .result ≡ bytesOf (trainsOf (c .before .before .before .before .before .before .before .before .args .sheet .now))
+demanded : (c : tie.After-bytes-of) →
+    c .bytes-of .result ≡ bytesOf (trainsOf (entry-of (c .before .before .before) .args .sheet .now))
 demanded c = c .bytes-of .ensures ∙ ap bytesOf (c .before .before .before .before .before .field .ensures)
 
 returns-3 : tie.Need-returns-3

@@ -1,7 +1,7 @@
 -- `writer::check_write` meets its contract: the first check that refuses, else the verdict on the numbers.
 -- Assumes nothing.
 use borrow.Author.Needs.{needs}
-use mathlib.Core.Path.{_≡_, refl, sym, ap, _∙_}
+use mathlib.Core.Path.{_≡_, sym, ap, _∙_}
 use Prim.Native.Nat.{ℕ}
 use native.Mathlib.Omega.{arith}
 use Rattle.rail.specs.declared.Refusal.the-variants.{ListLength}
@@ -62,7 +62,8 @@ lengths-are : (c : tie.After-check-lengths) →
 lengths-are c =
     let start = entry-of (ranges-of c) .args in
     let given = lists (start .departures .now) (start .driving .now) (start .delays .now) (start .passengers .now) in
-    c .check-lengths .ensures ∙ ap (λ (k : ℕ). lengthsVerdict ListLength (start .m) k given) (c .before .pairs-of .ensures)
+    c .check-lengths .ensures
+    ∙ ap (λ (k : ℕ). lengthsVerdict ListLength (start .m) k given) (c .before .pairs-of .ensures)
 
 returns-3 : tie.Need-returns-3
 unfolding writeVerdict

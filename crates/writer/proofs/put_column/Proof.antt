@@ -1,13 +1,11 @@
 -- `writer::put_column` meets its contract. Invariant: the places passed are put. Measure: the places left.
 -- Assumes nothing.
 use borrow.Author.Needs.{needs}
-use mathlib.Core.Path.{_≡_, refl}
-use Prim.Native.Nat.{ℕ, _≤_, _-_, _+_, _*_, _<_}
+use mathlib.Core.Path.{_≡_}
+use Prim.Native.Nat.{_≤_, _-_, _+_, _*_}
 use native.Mathlib.Omega.{arith}
-use lib.ListN.{length}
 use Rattle.bits.specs.Field.{Within}
 use Rattle.bits.proofs.Fields.{within-same}
-use Rattle.sheet.specs.declared.format.Column.{Column}
 use Rattle.writer.specs.Steps.{ColumnPut}
 use Rattle.writer.proofs.Columns.{column-none, column-next}
 use Rattle.writer.proofs.put_column.Statement.{statement}
@@ -30,7 +28,8 @@ reach : (c : tie.After-put-arg Inv-loop μ-loop) →
     Within (c .before .before .loop .sheet) (start .column .first + start .column .step * k) (start .column .width)
 reach c =
     let at-loop = c .before .before .loop in
-    within-same (c .before .before .before .before .before .pre .within (at-loop .k) (c .before .loop-test .taken)) (at-loop .inv .1 .long)
+    within-same (c .before .before .before .before .before .pre .within (at-loop .k) (c .before .loop-test .taken))
+    (at-loop .inv .1 .long)
 
 mul-put : tie.Need-mul-put Inv-loop μ-loop
 mul-put c = omega (arith, reach c .near)
@@ -47,7 +46,8 @@ shared-slice-read-put c = search needs
 put-requires : tie.Need-put-requires Inv-loop μ-loop
 put-requires c κs =
     let turn = c .before in
-    (reach turn, turn .before .before .before .before .before .pre .small (turn .before .before .loop .k) (turn .before .loop-test .taken))
+    let start = turn .before .before .before .before .before in
+    (reach turn, start .pre .small (turn .before .before .loop .k) (turn .before .loop-test .taken))
 
 add-k : tie.Need-add-k Inv-loop μ-loop
 add-k c = search needs
@@ -58,7 +58,8 @@ loop-less c = search needs
 loop-again : tie.Need-loop-again Inv-loop μ-loop
 loop-again c =
     let at-loop = c .before .before .before .before .before .before in
-    (omega arith, column-next (at-loop .loop .inv .1) (at-loop .before .before .before .pre .spaced) (c .before .before .put .ensures))
+    let spaced = at-loop .before .before .before .pre .spaced in
+    (omega arith, column-next (at-loop .loop .inv .1) spaced (c .before .before .put .ensures))
 
 same-length : tie.Need-same-length Inv-loop μ-loop
 same-length c = c .before .loop .inv .1 .long

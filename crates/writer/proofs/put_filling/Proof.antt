@@ -1,12 +1,8 @@
 -- `writer::put_filling` meets its contract: the filling is at most seven bits of the last byte.
 -- Assumes nothing.
 use borrow.Author.Needs.{needs}
-use mathlib.Core.Path.{_≡_, refl, ap, _∙_}
-use Prim.Native.Nat.{ℕ, _*_, _-_}
 use native.Mathlib.Omega.{arith}
-use lib.ListN.{length}
 use lib.Pow.{pow-pos}
-use Rattle.sheet.specs.Format.{bitsOf, bytesOf}
 use Rattle.sheet.proofs.Lengths.{bits-le, bytes-bits}
 use Rattle.writer.proofs.put_filling.Statement.{statement}
 use Rattle.writer.proofs.put_filling.Tie as tie

@@ -1,10 +1,17 @@
 -- `writer::put_sheet` meets its contract: head, times, passengers and filling make the sheet.
 -- Assumes nothing.
 use borrow.Author.Needs.{needs}
-use mathlib.Core.Path.{_≡_, refl, sym, ap, _∙_}
+use mathlib.Core.Path.{refl, _∙_}
 use Rattle.writer.proofs.Whole.{head-room, times-room, passengers-room, sheet-put}
 use Rattle.writer.proofs.put_sheet.Statement.{statement}
 use Rattle.writer.proofs.put_sheet.Tie as tie
+
+-- from where the head is put back to the entry, and from the times to the head
+abbrev entry-of : tie.After-put-head → tie.Start
+entry-of c = c .before .before .before .before .before .before .before
+
+abbrev head-of : tie.After-put-times → tie.After-put-head
+head-of c = c .before .before .before .before
 
 put-head-requires : tie.Need-put-head-requires
 put-head-requires c κs = head-room _ _ _ (c .before .before .before .before .before .before .pre) refl
@@ -12,7 +19,7 @@ put-head-requires c κs = head-room _ _ _ (c .before .before .before .before .be
 put-times-requires : tie.Need-put-times-requires
 put-times-requires c κs =
     let head = c .before .before .before in
-    times-room _ _ _ (head .before .before .before .before .before .before .before .pre) (head .put-head .ensures .long)
+    times-room _ _ _ (entry-of head .pre) (head .put-head .ensures .long)
 
 passengers-requires : tie.Need-passengers-requires
 passengers-requires c κs = search needs
@@ -20,9 +27,9 @@ passengers-requires c κs = search needs
 put-column-requires : tie.Need-put-column-requires
 put-column-requires c κs =
     let times = c .before .before .before .before in
-    let head = times .before .before .before .before in
+    let head = head-of times in
     rw (c .passengers .ensures)
-    (passengers-room _ _ _ (head .before .before .before .before .before .before .before .pre) (times .put-times .ensures .long ∙ head .put-head .ensures .long))
+    (passengers-room _ _ _ (entry-of head .pre) (times .put-times .ensures .long ∙ head .put-head .ensures .long))
 
 put-filling-requires : tie.Need-put-filling-requires
 put-filling-requires c κs = search needs
@@ -35,8 +42,8 @@ returns c =
     let filling = c .before .before in
     let counts = filling .before .before .before .before in
     let times = counts .before .before .before .before .before in
-    let head = times .before .before .before .before in
-    sheet-put _ _ _ _ _ _ (head .before .before .before .before .before .before .before .pre) (head .put-head .ensures) (times .put-times .ensures)
+    let head = head-of times in
+    sheet-put _ _ _ _ _ _ (entry-of head .pre) (head .put-head .ensures) (times .put-times .ensures)
     (rw (counts .before .passengers .ensures) at (counts .put-column .ensures))
     (filling .put-filling .ensures)
     (λ i. c .slice-known5 .given i .fits)

@@ -10,7 +10,7 @@ use Rattle.rail.specs.declared.Verdict.the-variants.{Fine}
 use Rattle.sheet.specs.Numbers.{lists}
 use Rattle.sheet.proofs.Lengths.{bytes-le}
 use Rattle.writer.specs.Write.{Given, given, writeVerdict}
-use Rattle.writer.proofs.Facts.{Accepts, accepts-of-fine}
+use Rattle.writer.proofs.Facts.{accepts-of-fine}
 use Rattle.writer.proofs.Outcome.{write-refused, write-accepted}
 use Rattle.writer.proofs.write.Statement.{statement}
 use Rattle.writer.proofs.write.Tie as tie

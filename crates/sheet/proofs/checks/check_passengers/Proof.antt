@@ -1,4 +1,5 @@
--- `checks::check_passengers` meets its contract. Invariant: the fields from f on are still to be checked. Measure: how many.
+-- `checks::check_passengers` meets its contract. Invariant: the fields from f on are still to be checked. Measure: how
+-- many.
 -- Assumes nothing.
 use borrow.Author.Needs.{needs}
 use mathlib.Core.Path.{refl}
@@ -43,7 +44,8 @@ loop-less c = search needs
 
 loop-again : tie.Need-loop-again Inv-loop μ-loop
 unfolding passengersVerdict
-loop-again c = search-next _ _ (c .before .before .before .loop .inv) (omega arith) refl (miss _ _ _ _ _ (omega arith) refl)
+loop-again c =
+    search-next _ _ (c .before .before .before .loop .inv) (omega arith) refl (miss _ _ _ _ _ (omega arith) refl)
 
 returns-2 : tie.Need-returns-2 Inv-loop μ-loop
 returns-2 c = search-end _ _ (c .before .loop .inv) (omega arith)

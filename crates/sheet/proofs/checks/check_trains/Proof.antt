@@ -1,4 +1,5 @@
--- `checks::check_trains` meets its contract. Invariant: the trains from i on are still to be checked. Measure: how many.
+-- `checks::check_trains` meets its contract. Invariant: the trains from i on are still to be checked. Measure: how
+-- many.
 -- Assumes nothing.
 use borrow.Author.Needs.{needs}
 use Prim.Native.Nat.{_+_, _-_}
@@ -27,7 +28,8 @@ enum-told c = search needs
 returns : tie.Need-returns Inv-loop μ-loop
 returns c =
     let turn = c .before .before in
-    search-stop _ _ (turn .before .before .loop .inv) (omega arith) (c .enum-told .given .1) (turn .check-train .ensures)
+    search-stop _ _ (turn .before .before .loop .inv) (omega arith) (c .enum-told .given .1)
+    (turn .check-train .ensures)
 
 enum-told-2 : tie.Need-enum-told-2 Inv-loop μ-loop
 enum-told-2 c = search needs
@@ -41,7 +43,8 @@ loop-less c = search needs
 loop-again : tie.Need-loop-again Inv-loop μ-loop
 loop-again c =
     let turn = c .before .before in
-    search-next _ _ (turn .before .before .loop .inv) (omega arith) (c .enum-told2 .given .1) (turn .check-train .ensures)
+    search-next _ _ (turn .before .before .loop .inv) (omega arith) (c .enum-told2 .given .1)
+    (turn .check-train .ensures)
 
 returns-2 : tie.Need-returns-2 Inv-loop μ-loop
 returns-2 c = search-end _ _ (c .before .loop .inv) (omega arith)
