@@ -1,15 +1,16 @@
 -- One bit of one byte replaced, and bytes against their bits: lists of bytes of one length with equal bits are equal.
 -- Assumes nothing.
 use mathlib.Core.Path.{_≡_, sym, ap, subst, _∙_}
-use mathlib.Core.List.{List}
+use mathlib.Core.Bool.{Bool, true, false, _&&_}
+use mathlib.Core.List.{List, [], _∷_}
 use mathlib.Core.Logic.{⊎-elim}
 use Prim.Native.Nat.{ℕ, zero, suc, _+_, _-_, _*_, _/_, _%_, _^_, _≤_, _<_}
 use native.Mathlib.Nat.{mod-lt, pow-suc, div-le-self, one-mul, div-eq-of-lt, div-one, zero-add}
 use native.Mathlib.Omega.{arith}
 use lib.Arith.{digits-lt}
-use lib.Dec.{lit<, lit≤}
+use lib.Dec.{T, ltb, ltb→lt, lit<, lit≤}
 use lib.ListN.{length, getD}
-use lib.Pow.{pow-pos, pow-add, field, mod-mod-pow, shr-shr, shr-lt, shl-exact, high, low}
+use lib.Pow.{pow-pos, pow-add, field, mod-mod-pow, shr-shr, shr-lt, shl-exact, high, low, areBytes}
 use lib.Seq.{ext-getD}
 use Rattle.lists.proofs.Order.{lt-or-ge}
 use Rattle.bits.specs.Field.{bitAt, fieldOf, BitPut, Bytes}
@@ -121,3 +122,15 @@ pub bytes-same : (s t : List ℕ) → Bytes s → Bytes t → length s ≡ lengt
 bytes-same s t hs ht e f =
     bytes-ext s t hs ht e
     (λ i l. subst (λ (j : ℕ). bitAt s j ≡ bitAt t j) (zero-add i) (same-bits s t 0 (8 * length s) f i l))
+
+-- ---- a given list of bytes, by a test that is computed
+
+both : (a b : Bool) → T (a && b) → T a × T b
+both true true t = (tt, tt)
+both true false t = absurd t
+both false b t = absurd t
+
+pub bytes-tested : (s : List ℕ) → T (areBytes s) → Bytes s
+bytes-tested [] t i = lit< tt
+bytes-tested (x ∷ s) t zero = ltb→lt x 256 (both (ltb x 256) (areBytes s) t .0)
+bytes-tested (x ∷ s) t (suc i) = bytes-tested s (both (ltb x 256) (areBytes s) t .1) i

@@ -6,7 +6,7 @@ use mathlib.Core.Path.{_≡_, refl, sym, ap, ap₂, subst, _∙_}
 use mathlib.Core.List.{List}
 use mathlib.Core.Logic.{⊎-elim}
 use Prim.Native.Nat.{ℕ, zero, suc, _+_, _-_, _≤_, _<_}
-use native.Mathlib.Nat.{not-suc-le-zero, le-of-suc-le-suc, add-zero, zero-add}
+use native.Mathlib.Nat.{not-suc-le-zero, le-of-suc-le-suc, add-zero}
 use native.Mathlib.Omega.{arith}
 use lib.ListN.{length, getD, List·getD-eq-default}
 use lib.Seq.{ext-getD}
@@ -45,12 +45,6 @@ module _ {A : Type 0} (f : ℕ → A) where
   listed-at d i (suc n) (suc k) l =
       let e : i + 1 + k ≡ i + suc k = omega arith in
       listed-at d (i + 1) n k (le-of-suc-le-suc l) ∙ ap f e
-
-  -- a list with these entries is the list of the run
-  pub listed-ext : (d : A) (l : List A) (n : ℕ) → length l ≡ n → ((k : ℕ) → k < n → getD l k d ≡ f k) → l ≡ listed f 0 n
-  listed-ext d l n e h =
-      ext-getD d l (listed f 0 n) (e ∙ sym (listed-length 0 n))
-      (λ k b. let b′ : k < n = omega arith in h k b′ ∙ ap f (sym (zero-add k)) ∙ sym (listed-at d 0 n k b′))
 
 -- ---- f 1, f 2, .., f n and then 0
 

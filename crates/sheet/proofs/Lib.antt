@@ -3,3 +3,4 @@ pub mod Pairs
 pub mod Facts
 pub mod Meaning
 pub mod Amend
+pub mod Sample

@@ -3,3 +3,4 @@ pub mod Pairs
 pub mod Numbers
 pub mod Checks
 pub mod Accepted
+pub mod SheetA

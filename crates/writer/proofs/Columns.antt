@@ -42,6 +42,3 @@ column-next {s} {t} {u} {c} {n} {l} g spaced h =
 pub trains-apart : (a v b w i j : ℕ) → a + v ≤ b → b + w ≤ a + 33 → Apart (a + 33 * i) v (b + 33 * j) w
 trains-apart a v b w i j h k =
     ⊎-elim (λ (l : j < i). inr (omega arith)) (λ (l : i ≤ j). inl (omega arith)) (lt-or-ge j i)
-
-pub apart-sym : (a v b w : ℕ) → Apart a v b w → Apart b w a v
-apart-sym a v b w o = ⊎-elim (λ l. inr l) (λ l. inl l) o
