@@ -48,6 +48,7 @@ def reads():
         read('B', b),
         # under 3 bytes is 1; shorter than m demands is 1, longer is 4
         read('empty', b''),
+        read('FF FF', b'\xFF\xFF'),
         read('A, 1 byte', a[:1]),
         read('A, 2 bytes', a[:2]),
         read('A, 3 bytes', a[:3]),

@@ -2,7 +2,7 @@
 -- Bit 0 is the most significant bit of byte 0, bit 8 that of byte 1.
 --   bitAt s i         bit i of the bytes s; past their end it is 0
 --   fieldOf s at w    the number in the w bits from bit at, the first the most significant
---   Put s at w v t    t is s with v in those bits and every other bit as it was
+--   Put s at w v t    t is s with v in those bits and every other bit as it was; of lists of bytes there is one such t
 -- Assumes nothing.
 use Prim.Native.Nat.{ℕ, zero, suc, _+_, _-_, _*_, _/_, _%_, _^_, _≤_, _<_}
 use mathlib.Core.Path.{_≡_}

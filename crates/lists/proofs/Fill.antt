@@ -1,5 +1,5 @@
--- Laws of a list that a loop fills from its first place on: the start, one place more, and the list once all are
--- filled.
+-- Laws of a list that a loop fills from its first place on:
+-- the start, one place more, and the list once all are filled.
 -- Assumes nothing.
 use mathlib.Core.Path.{_≡_, refl, sym, ap, subst, _∙_}
 use mathlib.Core.List.{List}

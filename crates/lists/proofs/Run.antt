@@ -1,6 +1,6 @@
--- Laws of a run of places, for any step: one place taken, none left, equal at equal places; and of the lists made of a
--- run.
--- A loop states what it has still to do as a run that equals its goal: `run-next` is its turn, `run-none` its end.
+-- Laws of a run of places, for any step: one place taken, none left, equal at
+-- equal places; and of the lists made of a run. A loop states what it has still to
+-- do as a run that equals its goal: `run-next` is its turn, `run-none` its end.
 -- Assumes nothing.
 use mathlib.Core.Path.{_≡_, refl, sym, ap, ap₂, subst, _∙_}
 use mathlib.Core.List.{List}

@@ -1,6 +1,5 @@
--- The round trips. What read leaves are the sheet's numbers and what write leaves is the sheet of its numbers, and the
--- sheet
--- of given numbers is unique.
+-- The round trips. What read leaves are the sheet's numbers and what write
+-- leaves is the sheet of its numbers, and the sheet of given numbers is unique.
 -- Assumes nothing.
 use mathlib.Core.Path.{_≡_, refl, sym, ap, ap₂, subst, _∙_}
 use mathlib.Core.List.{List}
@@ -15,23 +14,23 @@ use Rattle.rail.proofs.Checks.{then-fine, fine-then}
 use Rattle.sheet.specs.Format.{trainsOf, periodOf, departureOf, drivingOf, delayOf, passengersOf, bytesOf, pairsOf}
 use Rattle.sheet.specs.Numbers.{Lists, lists, numbersOf}
 use Rattle.sheet.specs.Checks.{sheetVerdict}
-use Rattle.sheet.specs.Accepted.{Lengths, Accepted, SameNumbers, SheetOf}
+use Rattle.sheet.specs.Accepted.{Lengths, AcceptedSheet, SameNumbers, SheetOf}
 use Rattle.sheet.proofs.Lengths.{pairs-le}
 use Rattle.sheet.proofs.Facts.{fine-of-lengths, accepted-of-fine, fine-of-accepted}
 use Rattle.sheet.proofs.Meaning.{same-sym, in-range-same, sheet-of-one, sheet-of-accepted, accepted-sheet-of}
 use Rattle.sheet.proofs.Amend.{replaced-numbers, replaced-accepted}
 use Rattle.reader.specs.Read.{readVerdict, readingOf, Read}
 use Rattle.reader.proofs.Answers.{accepted-fine}
-use Rattle.writer.specs.Write.{Given, numbersGiven, writingOf, writeVerdict, Write}
+use Rattle.writer.specs.Write.{Given, numbersGiven, writingOf, writeVerdict, Write, Accepts}
 use Rattle.writer.proofs.Outcome.{written-fine}
-use Rattle.writer.proofs.Facts.{Accepts, accepts-of-fine, fine-of-accepts}
+use Rattle.writer.proofs.Facts.{accepts-of-fine, fine-of-accepts}
 use Rattle.rail.specs.declared.Verdict.{Verdict}
 use Rattle.bits.specs.Field.{Bytes}
 use Rattle.reader.specs.declared.Reading.{Reading}
 use Rattle.reader.specs.declared.Reading.the-variants.{Accepted as ReadAccepted}
 use Rattle.writer.specs.declared.Writing.{Writing}
 use Rattle.writer.specs.declared.Writing.the-variants.{Accepted as WriteAccepted}
-use Rattle.meaning.specs.OneMeaning.{firstOnes, ReadThenWrite, WriteThenRead, EqualFields, DelayStays}
+use Rattle.meaning.specs.OneMeaning.{givenFrom, ReadThenWrite, WriteThenRead, EqualFields, DelayStays}
 
 pub equal-fields : EqualFields
 equal-fields s t bs bt fs ft same =
@@ -58,7 +57,7 @@ first-length l size n f e k = length-take-le n l (rw (e, padded-length size n f)
 
 -- an accepted reading: the sheet is accepted, and the lists hold its fields
 record Got (s : List ℕ) (after : Lists) (m T : ℕ) : Type 0 where
-  ok : Accepted s
+  ok : AcceptedSheet s
   trains : m ≡ trainsOf s
   period : T ≡ periodOf s
   departures : after .departures ≡ padded 64 (trainsOf s) (departureOf s)
@@ -83,7 +82,7 @@ got s before after m T h =
 
 module _ (s : List ℕ) (after : Lists) (g : Got s after (trainsOf s) (periodOf s)) where
   abbrev again : Given
-  again = firstOnes (trainsOf s) (periodOf s) after
+  again = givenFrom (trainsOf s) (periodOf s) after
 
   most : trainsOf s ≤ 64
   most = g .ok .numbers .trains-most
@@ -151,7 +150,7 @@ first-same l given size n f e k long same =
     let z : j + 1 - 1 ≡ j = omega arith in
     rw z at (first-nth l size n f e k (j + 1) (omega arith) (omega arith) ∙ same (j + 1) (omega arith) (omega arith)))
 
-module _ (s : List ℕ) (before after : Lists) (a : Reading) (ok : Accepted s) (room : Lengths 64 2080 before)
+module _ (s : List ℕ) (before after : Lists) (a : Reading) (ok : AcceptedSheet s) (room : Lengths 64 2080 before)
     (h : Read s before after a) where
   read-fine : readVerdict s before ≡ Fine
   unfolding readVerdict
@@ -163,7 +162,7 @@ module _ (s : List ℕ) (before after : Lists) (a : Reading) (ok : Accepted s) (
 
 module _ (G : Given) (s : List ℕ) (after : Lists) (accepts : Accepts 3907 G) (sheet : SheetOf (numbersGiven G) s)
     (g : Got s after (trainsOf s) (periodOf s)) where
-  lists-back : firstOnes (trainsOf s) (periodOf s) after ≡ G
+  lists-back : givenFrom (trainsOf s) (periodOf s) after ≡ G
   lists-back =
       let n : trainsOf s ≤ 64 = g .ok .numbers .trains-most in
       let same = sheet .numbers in

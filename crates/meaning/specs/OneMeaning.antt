@@ -1,11 +1,10 @@
--- Each accepted sheet has one meaning and comes back bit for bit. Demand 2, its second half, over the promises of read
--- and
--- write alone: whatever keeps these promises does this.
---   ReadThenWrite     what read gives of an accepted sheet, write accepts, and it writes that sheet
---   WriteThenRead     what write wrote, read accepts, and it gives the same numbers
---   EqualFields       two accepted sheets with equal fields are equal
---   DelayStays        one source delay of 0 to 1,440 put into an accepted sheet leaves it accepted and every other
--- field as it was
+-- Each accepted sheet has one meaning and comes back bit for bit: the second half of demand 2. The statements are about
+-- the promises of read and write alone, so they hold of whatever keeps those promises.
+--   ReadThenWrite   what read gives of an accepted sheet, write accepts, and it writes that sheet
+--   WriteThenRead   what write wrote, read accepts, and it gives the same numbers
+--   EqualFields     two accepted sheets with equal fields are equal
+--   DelayStays      an accepted sheet with one source delay replaced by 0 to 1,440 is accepted, and every other field
+--                   is as it was
 -- Assumes nothing.
 use Prim.Native.Nat.{ℕ, _≤_}
 use mathlib.Core.Path.{_≡_}
@@ -25,8 +24,8 @@ use Rattle.writer.specs.declared.Writing.the-variants.{Accepted as WriteAccepte
 use Rattle.writer.specs.Write.{Given, given, Write}
 
 -- the first m places of three lists and the first m(m+1)/2 of the fourth, as write takes them
-abbrev pub firstOnes : ℕ → ℕ → Lists → Given
-firstOnes m T L =
+abbrev pub givenFrom : ℕ → ℕ → Lists → Given
+givenFrom m T L =
     given m T
     (lists (take m (L .departures)) (take m (L .driving)) (take m (L .delays)) (take (pairsOf m) (L .passengers)))
 
@@ -36,7 +35,7 @@ ReadThenWrite =
     → Bytes s
     → Read s before after (ReadAccepted m T)
     → length buffer ≡ 3907
-    → Write (firstOnes m T after) buffer written w
+    → Write (givenFrom m T after) buffer written w
     → (w ≡ WriteAccepted (length s)) × (take (length s) written ≡ s)
 
 abbrev pub WriteThenRead : Type 0
@@ -45,7 +44,7 @@ WriteThenRead =
     → Write G buffer written (WriteAccepted n)
     → Lengths 64 2080 before
     → Read (take n written) before after a
-    → (a ≡ ReadAccepted (G .trains) (G .period)) × (firstOnes (G .trains) (G .period) after ≡ G)
+    → (a ≡ ReadAccepted (G .trains) (G .period)) × (givenFrom (G .trains) (G .period) after ≡ G)
 
 abbrev pub EqualFields : Type 0
 EqualFields =

@@ -1,6 +1,6 @@
--- Laws of checks in their order, as a function that answers a verdict uses them: a test that refused is the answer
--- (`hit`,
--- `unlike`), a test that passed leaves the rest (`miss`, `alike`); and what a verdict that is fine tells of each check.
+-- Laws of checks in their order, as a function that answers a verdict uses them: a
+-- test that refused is the answer (`hit`, `unlike`), a test that passed leaves the
+-- rest (`miss`, `alike`); and what a verdict that is fine tells of each check.
 -- Assumes nothing.
 use mathlib.Core.Path.{_≡_, refl, sym, ap, subst, _∙_}
 use mathlib.Core.Logic.{_⊎_, inl, inr, ⊎-elim}
@@ -47,7 +47,7 @@ fine-then {x} {y} p q = sym (then-pass x y Fine p (sym q))
 module _ (r : Refusal) (a b : ℕ) where
   -- ---- a number below another
 
-  refused-below : a < b → Refused r ≡ refuse r when a below b
+  pub refused-below : a < b → Refused r ≡ refuse r when a below b
   unfolding refuse_when_below_
   refused-below l = sym (below-yes _ _ l)
 

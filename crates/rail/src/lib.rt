@@ -33,9 +33,10 @@ impl Train {
 }
 
 impl Station {
-    // The train that reaches this station, whose passengers may go on from here.
+    // The train that reaches this station, whose passengers may go on from here. None reaches
+    // station 1.
     pub fn feeder(self) -> Train
-        requires { ⌜ 1 ≤ self .0 ⌝ }
+        requires { ⌜ 2 ≤ self .0 ⌝ }
         ensures { λ r. ⌜ r .0 ≡ self .0 - 1 ⌝ }
     {
         Train(self.0 - 1)

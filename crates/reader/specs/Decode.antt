@@ -3,14 +3,14 @@
 use Prim.Native.Nat.{ℕ, _+_, _*_, _≤_, _<_}
 use mathlib.Core.Path.{_≡_}
 use mathlib.Core.List.{List}
-use lib.ListN.{length}
+use lib.ListN.{length, replicate}
 use Rattle.bits.specs.Field.{Within}
 use Rattle.lists.specs.Run.{padded}
-use Rattle.rail.specs.declared.Verdict.the-variants.{Fine}
+use Rattle.rail.specs.declared.Verdict.{Verdict}
+use Rattle.rail.specs.Verdict.{ifFine}
 use Rattle.sheet.specs.declared.format.Column.{Column}
 use Rattle.sheet.specs.Format.{trainsOf, periodOf, departureOf, drivingOf, delayOf, passengersOf, bytesOf, pairsOf}
 use Rattle.sheet.specs.Numbers.{Lists}
-use Rattle.sheet.specs.Checks.{sheetVerdict}
 use Rattle.reader.specs.declared.Columns.{Columns}
 use Rattle.reader.specs.declared.Decoded.{Decoded}
 use Rattle.reader.specs.Read.{readingOf}
@@ -34,10 +34,21 @@ pub record ColumnsOf (s : List ℕ) (c : Columns) : Type 0 where
   pub delays : c .delays ≡ padded 64 (trainsOf s) (delayOf s)
   pub passengers : c .passengers ≡ padded 2080 (pairsOf (trainsOf s)) (passengersOf s)
 
--- the sheet's verdict, and its columns where it is accepted
-pub record Decoding (s : List ℕ) (d : Decoded) : Type 0 where
-  pub answer : d .answer ≡ readingOf (sheetVerdict s) (trainsOf s) (periodOf s)
-  pub columns : sheetVerdict s ≡ Fine → ColumnsOf s (d .columns)
+-- every number of the columns is 0
+pub record NoColumns (c : Columns) : Type 0 where
+  pub departures : c .departures ≡ replicate 64 0
+  pub driving : c .driving ≡ replicate 64 0
+  pub delays : c .delays ≡ replicate 64 0
+  pub passengers : c .passengers ≡ replicate 2080 0
+
+-- the answer by the verdict v, and the sheet's columns where it is fine, zeros where it refuses
+pub record Decoding (v : Verdict) (s : List ℕ) (d : Decoded) : Type 0 where
+  pub answer : d .answer ≡ readingOf v (trainsOf s) (periodOf s)
+  pub departures : d .columns .departures ≡ ifFine v (padded 64 (trainsOf s) (departureOf s)) (replicate 64 0)
+  pub driving : d .columns .driving ≡ ifFine v (padded 64 (trainsOf s) (drivingOf s)) (replicate 64 0)
+  pub delays : d .columns .delays ≡ ifFine v (padded 64 (trainsOf s) (delayOf s)) (replicate 64 0)
+  pub passengers : d .columns .passengers
+      ≡ ifFine v (padded 2080 (pairsOf (trainsOf s)) (passengersOf s)) (replicate 2080 0)
 
 -- the lists are as long as the columns
 pub record Fits (c : Columns) (L : Lists) : Type 0 where

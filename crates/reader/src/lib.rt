@@ -7,10 +7,11 @@ ghost use Rattle.lists.specs.Run.{padded};
 ghost use Rattle.lists.specs.Filled.{Filled};
 ghost use Rattle.sheet.specs.Format.{trainsOf, periodOf, entry};
 ghost use Rattle.sheet.specs.Numbers.{lists};
-ghost use Rattle.sheet.specs.Checks.{headVerdict, fillingVerdict, bodyVerdict};
+ghost use Rattle.sheet.specs.Checks.{headVerdict, fillingVerdict, bodyVerdict, sheetVerdict};
 ghost use Rattle.reader.specs.Read.{readNumber, readPlace, readTrains, readPeriod, readingOf};
 ghost use Rattle.reader.specs.Read.{Read};
-ghost use Rattle.reader.specs.Decode.{ColumnRoom, Head, ColumnsOf, Decoding, Fits, Stored};
+ghost use Rattle.reader.specs.Decode.{ColumnRoom, Head, ColumnsOf, NoColumns, Decoding, Fits};
+ghost use Rattle.reader.specs.Decode.{Stored};
 use bits::field;
 use lists::copy_u32;
 use rail::Refusal;
@@ -19,6 +20,10 @@ use sheet::checks::check_lengths;
 use sheet::checks::check_numbers;
 use sheet::checks::check_ranges;
 use sheet::format::Column;
+use sheet::format::PERIOD_AT;
+use sheet::format::PERIOD_WIDTH;
+use sheet::format::TRAINS_AT;
+use sheet::format::TRAINS_WIDTH;
 use sheet::format::bits_of;
 use sheet::format::bytes_of;
 use sheet::format::pairs_of;
@@ -75,7 +80,7 @@ pub struct Columns {
     pub passengers: [u32; 2080],
 }
 
-// A sheet taken apart. The columns count only where the answer accepts.
+// A sheet taken apart. Where the answer refuses, every number of the columns is 0.
 pub struct Decoded {
     pub answer: Reading,
     pub columns: Columns,
@@ -89,8 +94,8 @@ fn read_head(sheet: &[u8]) -> Reading
     if sheet.len() < 3 {
         return Reading::Refused(Refusal::NoHead);
     }
-    let m = field(sheet, 0, 7);
-    let period = field(sheet, 7, 11);
+    let m = field(sheet, TRAINS_AT, TRAINS_WIDTH);
+    let period = field(sheet, PERIOD_AT, PERIOD_WIDTH);
     let ranges = check_ranges(m, period);
     if let Verdict::Refused(refusal) = ranges {
         return Reading::Refused(refusal);
@@ -186,48 +191,46 @@ fn check_body(sheet: &[u8], m: u32, columns: Columns) -> Verdict
     check_filling(sheet, m as usize)
 }
 
-// All zeros, for a sheet that is refused before its columns are read.
-fn no_columns() -> Columns {
-    Columns {
+// A sheet that is refused: no column counts, and all are 0.
+fn refused(refusal: Refusal) -> Decoded
+    ensures { λ r. ⌜ (r .answer ≡ Reading.Refused refusal) × NoColumns (r .columns) ⌝ }
+{
+    let columns = Columns {
         departures: [0u32; 64],
         driving: [0u32; 64],
         delays: [0u32; 64],
         passengers: [0u32; 2080],
+    };
+    Decoded {
+        answer: Reading::Refused(refusal),
+        columns,
     }
 }
 
-// The answer of a verdict on a sheet of `m` trains and period `period`.
-fn answer_of(verdict: Verdict, m: u32, period: u32) -> Reading
-    ensures { λ r. ⌜ r ≡ readingOf verdict m period ⌝ }
-{
-    match verdict {
-        Verdict::Fine => Reading::Accepted(m, period),
-        Verdict::Refused(refusal) => Reading::Refused(refusal),
-    }
-}
-
-// The columns behind a head that passed, with the verdict on them.
+// What stands behind a head that passed.
 fn decode_body(sheet: &[u8], m: u32, period: u32) -> Decoded
-    requires { ⌜ Head (now sheet) m ⌝ }
-    ensures { λ r. ⌜ (r .answer ≡ readingOf (bodyVerdict (now (sheet .entry))) m period) ×
-        ColumnsOf (now (sheet .entry)) (r .columns) ⌝ }
+    requires { ⌜ Head (now sheet) m × (period ≡ periodOf (now sheet)) ⌝ }
+    ensures { λ r. ⌜ Decoding (bodyVerdict (now (sheet .entry))) (now (sheet .entry)) r ⌝ }
 {
     let columns = read_columns(sheet, m as usize);
-    let answer = answer_of(check_body(sheet, m, columns), m, period);
-    Decoded { answer, columns }
+    let verdict = check_body(sheet, m, columns);
+    if let Verdict::Refused(refusal) = verdict {
+        return refused(refusal);
+    }
+    Decoded {
+        answer: Reading::Accepted(m, period),
+        columns,
+    }
 }
 
 // A sheet taken apart, each field read once: what planning starts from.
 pub fn decode(sheet: &[u8]) -> Decoded
-    ensures { λ r. ⌜ Decoding (now (sheet .entry)) r ⌝ }
+    ensures { λ r. ⌜ Decoding (sheetVerdict (now (sheet .entry))) (now (sheet .entry)) r ⌝ }
 {
     let head = read_head(sheet);
     match head {
         Reading::Accepted(m, period) => decode_body(sheet, m, period),
-        Reading::Refused(refusal) => Decoded {
-            answer: Reading::Refused(refusal),
-            columns: no_columns(),
-        },
+        Reading::Refused(refusal) => refused(refusal),
     }
 }
 

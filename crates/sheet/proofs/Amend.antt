@@ -8,12 +8,12 @@ use native.Mathlib.Decide.{ℕ-discrete}
 use native.Mathlib.Omega.{arith}
 use Rattle.lists.proofs.Choice.{same-yes, same-no}
 use Rattle.lists.proofs.Order.{lt-or-ge}
-use Rattle.bits.specs.Field.{Apart}
+use Rattle.bits.specs.Field.{Apart, Put}
 use Rattle.bits.proofs.Puts.{put-apart}
 use Rattle.sheet.specs.Format.{trainsOf, entry, bytesOf}
 use Rattle.sheet.specs.Numbers.{numbersOf}
 use Rattle.sheet.specs.Checks.{earliestOf}
-use Rattle.sheet.specs.Accepted.{InRange, Accepted, SameNumbers, withDelay, DelayReplaced}
+use Rattle.sheet.specs.Accepted.{InRange, AcceptedSheet, SameNumbers, withDelay, DelayReplaced}
 use Rattle.sheet.proofs.Lengths.{layout}
 use Rattle.sheet.proofs.Meaning.{in-range-same}
 
@@ -22,8 +22,11 @@ train-fields-apart : (a v b w i j : ℕ) → (a + v ≤ b) × (b + w ≤ a + 33)
 train-fields-apart a v b w i j h =
     ⊎-elim (λ (l : j < i). inr (omega arith)) (λ (l : i ≤ j). inl (omega arith)) (lt-or-ge j i)
 
-module _ (s t : List ℕ) (i v : ℕ) (ok : Accepted s) (least : 1 ≤ i) (most : i ≤ trainsOf s)
-    (put : DelayReplaced s i v t) where
+module _ (s t : List ℕ) (i v : ℕ) (ok : AcceptedSheet s) (least : 1 ≤ i) (most : i ≤ trainsOf s)
+    (replaced : DelayReplaced s i v t) where
+  put : Put s (40 + 33 * (i - 1)) 11 v t
+  put = replaced .put
+
   same-delay : (j : ℕ) → 1 ≤ j → j ≤ trainsOf s
       → numbersOf t .times .delay j ≡ withDelay (numbersOf s) i v .times .delay j
   unfolding entry
@@ -71,7 +74,7 @@ module _ (s t : List ℕ) (i v : ℕ) (ok : Accepted s) (least : 1 ≤ i) (most 
       }
 
   -- a source delay of 0 to 1,440 leaves the sheet accepted
-  pub replaced-accepted : v ≤ 1440 → Accepted t
+  pub replaced-accepted : v ≤ 1440 → AcceptedSheet t
   replaced-accepted l =
       let same = replaced-numbers in
       let trains : trainsOf t ≡ trainsOf s = same .trains in

@@ -13,7 +13,7 @@ use Rattle.sheet.specs.Format.{trainsOf, periodOf, bytesOf}
 use Rattle.sheet.specs.Numbers.{Times, Numbers, Lists, numbersOf}
 use Rattle.sheet.specs.Checks.{lengthsVerdict, rangesVerdict, trainVerdict, passengersVerdict, numbersVerdict}
 use Rattle.sheet.specs.Checks.{headVerdict, fillingVerdict, bodyVerdict, sheetVerdict}
-use Rattle.sheet.specs.Accepted.{Lengths, TrainInRange, InRange, Accepted}
+use Rattle.sheet.specs.Accepted.{Lengths, TrainInRange, InRange, AcceptedSheet}
 use Rattle.sheet.proofs.Lengths.{layout, bytes-bits}
 
 -- ---- the lists
@@ -164,7 +164,7 @@ fine-of-headed s h =
     refl)))
 
 -- accepted exactly when the chain of checks finds nothing
-pub accepted-of-fine : (s : List ℕ) → sheetVerdict s ≡ Fine → Accepted s
+pub accepted-of-fine : (s : List ℕ) → sheetVerdict s ≡ Fine → AcceptedSheet s
 unfolding sheetVerdict bodyVerdict fillingVerdict
 accepted-of-fine s e =
     let a = then-fine _ _ e in
@@ -177,7 +177,7 @@ accepted-of-fine s e =
       filling = omega (arith, not-below _ _ _ (c .0));
     }
 
-pub fine-of-accepted : (s : List ℕ) → Accepted s → sheetVerdict s ≡ Fine
+pub fine-of-accepted : (s : List ℕ) → AcceptedSheet s → sheetVerdict s ≡ Fine
 unfolding sheetVerdict bodyVerdict fillingVerdict
 fine-of-accepted s h =
     let b = bytes-bits (trainsOf s) in

@@ -1,6 +1,5 @@
--- A sheet has one meaning: two sheets of the same numbers are equal bit for bit, and a sheet is accepted exactly when
--- its
--- numbers are in range. The fields are joined one after the other until they are the whole sheet.
+-- A sheet has one meaning: two sheets of the same numbers are equal bit for bit, and a sheet is accepted exactly
+-- when its numbers are in range. The fields are joined one after the other until they are the whole sheet.
 -- Assumes nothing.
 use mathlib.Core.Path.{_≡_, refl, sym, ap, ap₂, _∙_}
 use mathlib.Core.List.{List}
@@ -22,7 +21,7 @@ use Rattle.bits.proofs.Bytes.{bytes-same}
 use Rattle.sheet.specs.Format.{trainsOf, entry, bitsOf, bytesOf, pairsOf, fillingOf}
 use Rattle.sheet.specs.Numbers.{Numbers, numbersOf}
 use Rattle.sheet.specs.Checks.{earliestOf, trainVerdict, passengersVerdict, numbersVerdict}
-use Rattle.sheet.specs.Accepted.{InRange, Accepted, SameNumbers, SheetOf}
+use Rattle.sheet.specs.Accepted.{InRange, AcceptedSheet, SameNumbers, SheetOf}
 use Rattle.sheet.proofs.Lengths.{layout, bytes-bits}
 
 -- ---- numbers that are the same
@@ -176,11 +175,11 @@ sheet-of-one N s t g h =
     (g .filling) (h .filling)
 
 -- an accepted sheet is the sheet of its numbers
-pub sheet-of-accepted : (s : List ℕ) → Bytes s → Accepted s → SheetOf (numbersOf s) s
+pub sheet-of-accepted : (s : List ℕ) → Bytes s → AcceptedSheet s → SheetOf (numbersOf s) s
 sheet-of-accepted s b h = record { bytes = b; long = h .long; numbers = same-refl (numbersOf s); filling = h .filling }
 
 -- and the sheet of numbers in range is accepted
-pub accepted-sheet-of : (N : Numbers) (s : List ℕ) → InRange N → SheetOf N s → Accepted s
+pub accepted-sheet-of : (N : Numbers) (s : List ℕ) → InRange N → SheetOf N s → AcceptedSheet s
 accepted-sheet-of N s r h =
     record {
       long = h .long ∙ ap bytesOf (sym (h .numbers .trains));

@@ -7,48 +7,48 @@ use native.Mathlib.Nat.{not-suc-le-zero, mul-suc, suc-mul}
 use native.Mathlib.Omega.{arith}
 use Rattle.lists.proofs.Order.{lt-or-ge}
 use Rattle.sheet.specs.Format.{pairsOf}
-use Rattle.sheet.specs.Pairs.{IsPair, boardedUpTo, fieldOfPair}
+use Rattle.sheet.specs.Pairs.{IsPair, fieldsUpTo, fieldOfPair}
 use Rattle.sheet.proofs.Lengths.{pairs-twice}
 
 -- twice the fields of stations 1 to k, with the square of k
-boarded-twice : (m k : ℕ) → k ≤ m → 2 * boardedUpTo m k + k * k ≡ 2 * (m * k) + k
-unfolding boardedUpTo
-boarded-twice m zero l = omega arith
-boarded-twice m (suc k) l = omega (arith, boarded-twice m k (omega arith), mul-suc m k, mul-suc (suc k) k, suc-mul k k)
+fields-twice : (m k : ℕ) → k ≤ m → 2 * fieldsUpTo m k + k * k ≡ 2 * (m * k) + k
+unfolding fieldsUpTo
+fields-twice m zero l = omega arith
+fields-twice m (suc k) l = omega (arith, fields-twice m k (omega arith), mul-suc m k, mul-suc (suc k) k, suc-mul k k)
 
--- m stations have boarded them all
-pub boarded-all : (m : ℕ) → boardedUpTo m m ≡ pairsOf m
-boarded-all m = omega (arith, boarded-twice m m (omega arith), pairs-twice m)
+-- the fields of stations 1 to m are all fields
+pub fields-all : (m : ℕ) → fieldsUpTo m m ≡ pairsOf m
+fields-all m = omega (arith, fields-twice m m (omega arith), pairs-twice m)
 
-boarded-next : (m i : ℕ) → 1 ≤ i → boardedUpTo m i ≡ boardedUpTo m (i - 1) + (m - (i - 1))
-unfolding boardedUpTo
-boarded-next m zero l = absurd (not-suc-le-zero l)
-boarded-next m (suc k) l = let e : suc k - 1 ≡ k = omega arith in rw e refl
+fields-next : (m i : ℕ) → 1 ≤ i → fieldsUpTo m i ≡ fieldsUpTo m (i - 1) + (m - (i - 1))
+unfolding fieldsUpTo
+fields-next m zero l = absurd (not-suc-le-zero l)
+fields-next m (suc k) l = let e : suc k - 1 ≡ k = omega arith in rw e refl
 
 -- a later station has no fewer fields before it
-boarded-le : (m k n : ℕ) → boardedUpTo m k ≤ boardedUpTo m (n + k)
-unfolding boardedUpTo
-boarded-le m k zero = let e : 0 + k ≡ k = omega arith in rw e (omega arith)
-boarded-le m k (suc n) = let e : suc n + k ≡ suc (n + k) = omega arith in rw e (omega (arith, boarded-le m k n))
+fields-le : (m k n : ℕ) → fieldsUpTo m k ≤ fieldsUpTo m (n + k)
+unfolding fieldsUpTo
+fields-le m k zero = let e : 0 + k ≡ k = omega arith in rw e (omega arith)
+fields-le m k (suc n) = let e : suc n + k ≡ suc (n + k) = omega arith in rw e (omega (arith, fields-le m k n))
 
-boarded-mono : (m k n : ℕ) → k ≤ n → boardedUpTo m k ≤ boardedUpTo m n
-boarded-mono m k n l = let e : n - k + k ≡ n = omega arith in rw e at (boarded-le m k (n - k))
+fields-mono : (m k n : ℕ) → k ≤ n → fieldsUpTo m k ≤ fieldsUpTo m n
+fields-mono m k n l = let e : n - k + k ≡ n = omega arith in rw e at (fields-le m k (n - k))
 
 -- the field of a pair lies after those of earlier stations and within those of its own
 module _ (m i j : ℕ) (p : IsPair m i j) where
-  pub pair-after : boardedUpTo m (i - 1) < fieldOfPair m i j
+  pub pair-after : fieldsUpTo m (i - 1) < fieldOfPair m i j
   unfolding fieldOfPair
   pair-after = omega (arith, p .apart)
 
-  pub pair-within : fieldOfPair m i j ≤ boardedUpTo m i
+  pub pair-within : fieldOfPair m i j ≤ fieldsUpTo m i
   unfolding fieldOfPair
-  pair-within = omega (arith, boarded-next m i (p .least), p .most, p .least)
+  pair-within = omega (arith, fields-next m i (p .least), p .most, p .least)
 
   -- every pair has one of the fields 1 to m(m+1)/2
   pub pair-has-field : (1 ≤ fieldOfPair m i j) × (fieldOfPair m i j ≤ pairsOf m)
   pair-has-field =
-      let later = boarded-mono m i m (omega (arith, p .apart, p .most)) in
-      (omega (arith, pair-after), omega (arith, pair-within, later, boarded-all m))
+      let later = fields-mono m i m (omega (arith, p .apart, p .most)) in
+      (omega (arith, pair-after), omega (arith, pair-within, later, fields-all m))
 
 -- by boarding station, within it by leaving station
 pub pairs-in-order : (m i j i′ j′ : ℕ) → IsPair m i j → IsPair m i′ j′ → (i < i′) ⊎ ((i ≡ i′) × (j < j′))
@@ -56,9 +56,9 @@ pub pairs-in-order : (m i j i′ j′ : ℕ) → IsPair m i j → IsPair m i′ 
 unfolding fieldOfPair
 pairs-in-order m i j i′ j′ p q o =
     ⊎-elim
-    (λ (l : i < i′). omega (arith, pair-within m i j p, boarded-mono m i (i′ - 1) (omega arith), pair-after m i′ j′ q))
+    (λ (l : i < i′). omega (arith, pair-within m i j p, fields-mono m i (i′ - 1) (omega arith), pair-after m i′ j′ q))
     (λ (e : (i ≡ i′) × (j < j′)).
-    omega (arith, ap (λ (k : ℕ). boardedUpTo m (k - 1)) (e .0), e .0, e .1, p .apart, q .apart))
+    omega (arith, ap (λ (k : ℕ). fieldsUpTo m (k - 1)) (e .0), e .0, e .1, p .apart, q .apart))
     o
 
 -- no two pairs have the same field
@@ -92,22 +92,22 @@ pub record PairOf (m f : ℕ) : Type 0 where
   pub pair : IsPair m boards leaves
   pub field : fieldOfPair m boards leaves ≡ f
 
-boarded-pair : (m k f : ℕ) → k ≤ m → 1 ≤ f → f ≤ boardedUpTo m k → PairOf m f
-unfolding boardedUpTo fieldOfPair
-boarded-pair m zero f l a b = let no-way : ⊥ = omega arith in absurd no-way
-boarded-pair m (suc k) f l a b =
+fields-pair : (m k f : ℕ) → k ≤ m → 1 ≤ f → f ≤ fieldsUpTo m k → PairOf m f
+unfolding fieldsUpTo fieldOfPair
+fields-pair m zero f l a b = let no-way : ⊥ = omega arith in absurd no-way
+fields-pair m (suc k) f l a b =
     ⊎-elim
-    (λ (c : boardedUpTo m k < f).
+    (λ (c : fieldsUpTo m k < f).
     let e : suc k - 1 ≡ k = omega arith in
     record {
       boards = suc k;
-      leaves = suc k + (f - boardedUpTo m k);
+      leaves = suc k + (f - fieldsUpTo m k);
       pair = record { least = omega arith; apart = omega arith; most = omega arith };
       field = rw e (omega arith);
     })
-    (λ (c : f ≤ boardedUpTo m k). boarded-pair m k f (omega arith) a c)
-    (lt-or-ge (boardedUpTo m k) f)
+    (λ (c : f ≤ fieldsUpTo m k). fields-pair m k f (omega arith) a c)
+    (lt-or-ge (fieldsUpTo m k) f)
 
 -- every field 1 to m(m+1)/2 is that of a pair
 pub field-has-pair : (m f : ℕ) → 1 ≤ f → f ≤ pairsOf m → PairOf m f
-field-has-pair m f a b = boarded-pair m m f (omega arith) a (omega (arith, boarded-all m))
+field-has-pair m f a b = fields-pair m m f (omega arith) a (omega (arith, fields-all m))

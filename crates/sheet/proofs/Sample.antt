@@ -1,7 +1,7 @@
--- The definitions against the bytes that document 01 prints: sheet A holds its numbers and is accepted; the three lengths.
--- The checker computes both.
+-- The definitions against the bytes that document 01 prints: sheet A holds
+-- its numbers and is accepted; the three lengths. The checker computes both.
 -- Assumes nothing.
-use mathlib.Core.Path.{_≡_, refl, sym, subst}
+use mathlib.Core.Path.{_≡_, refl, subst}
 use Prim.Native.Nat.{ℕ, _≤_}
 use native.Mathlib.Omega.{arith}
 use Rattle.lists.specs.Choice.{ifBelow}

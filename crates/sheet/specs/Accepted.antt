@@ -1,8 +1,9 @@
 -- Accepted sheets as plain facts. Document 01, the table of "The line and its numbers", and "The bit sheet".
---   Lengths n k L   three lists of n numbers, one of k
---   InRange N       every number of the line lies in its range, and no slack is under 0
---   Accepted s      the sheet s passes every check
---   SheetOf N s     s is the sheet of the numbers N: every field holds its number, and the filling bits are 0
+--   Lengths n k L        three lists of n numbers, one of k
+--   InRange N            every number of the line lies in its range, and no slack is under 0
+--   AcceptedSheet s      the sheet s passes every check
+--   SameNumbers N M      the numbers N and M are equal at every train and every passenger field of the line
+--   SheetOf N s          s is the sheet of the numbers N: every field holds its number, and the filling bits are 0
 --   withDelay N i v, DelayReplaced s i v t     one source delay replaced, in the numbers and in the sheet
 -- Assumes nothing.
 use Prim.Native.Nat.{ℕ, _+_, _-_, _*_, _≤_}
@@ -25,6 +26,7 @@ pub record TrainInRange (x : Times) (i : ℕ) : Type 0 where
   pub departure : x .departure i ≤ 2879
   pub driving : x .driving i ≤ 1023
   pub delay : x .delay i ≤ 1440
+  -- the slack is 0 or more
   pub slack : earliestOf x i ≤ x .departure i
 
 pub record InRange (N : Numbers) : Type 0 where
@@ -35,12 +37,11 @@ pub record InRange (N : Numbers) : Type 0 where
   pub train : (i : ℕ) → 1 ≤ i → i ≤ N .trains → TrainInRange (N .times) i
   pub passengers : (f : ℕ) → 1 ≤ f → f ≤ pairsOf (N .trains) → N .passengers f ≤ 10000
 
-pub record Accepted (s : List ℕ) : Type 0 where
+pub record AcceptedSheet (s : List ℕ) : Type 0 where
   pub long : length s ≡ bytesOf (trainsOf s)
   pub numbers : InRange (numbersOf s)
   pub filling : fillingOf s ≡ 0
 
--- equal at every train and every passenger field of the line
 pub record SameNumbers (N M : Numbers) : Type 0 where
   pub trains : N .trains ≡ M .trains
   pub period : N .period ≡ M .period
@@ -69,6 +70,7 @@ withDelay N i v =
       passengers = N .passengers;
     }
 
--- t is the sheet s with v in the field of train i's source delay and every other bit as it was
-abbrev pub DelayReplaced : List ℕ → ℕ → ℕ → List ℕ → Type 0
-DelayReplaced s i v t = Put s (delayColumn .first + delayColumn .step * (i - 1)) (delayColumn .width) v t
+-- t, a list of bytes, is the sheet s with v in the field of train i's source delay and every other bit as it was
+pub record DelayReplaced (s : List ℕ) (i v : ℕ) (t : List ℕ) : Type 0 where
+  pub bytes : Bytes t
+  pub put : Put s (delayColumn .first + delayColumn .step * (i - 1)) (delayColumn .width) v t

@@ -1,12 +1,12 @@
 -- The checks of a sheet and of its numbers. Document 01, "Numbers of refusal, in the order of checking".
---   lengthsVerdict r n k L       r, a 10, for lists of other lengths than n, n, n and k
+--   lengthsVerdict why n k L     refused for why where the lists have other lengths than n, n, n and k
 --   rangesVerdict m T            2 and 3
---   trainVerdict x i             5, 13, 6, 7 for train i; a field of 10 bits is never 13
+--   trainVerdict x i             5, 13, 6, 7 for train i; on a sheet it is never 13 (proofs/WriteOnly)
 --   passengersVerdict p f        8 for passenger field f
 --   numbersVerdict m x p         train by train, then field by field
 --   headVerdict s                1, 2, 3, then 1 or 4
 --   fillingVerdict s             9
---   sheetVerdict s               all of a sheet
+--   sheetVerdict s               all checks of a sheet
 -- Assumes nothing.
 use Prim.Native.Nat.{ℕ, _+_, _-_, _≤_}
 use mathlib.Core.List.{List}
@@ -24,11 +24,11 @@ use Rattle.sheet.specs.Numbers.{Times, Lists, timesOf}
 
 -- three lists of n numbers, one of k
 unfoldable pub lengthsVerdict : Refusal → ℕ → ℕ → Lists → Verdict
-lengthsVerdict r n k L =
-    (refuse r unless length (L .departures) is n)
-    andThen (refuse r unless length (L .driving) is n)
-    andThen (refuse r unless length (L .delays) is n)
-    andThen (refuse r unless length (L .passengers) is k)
+lengthsVerdict why n k L =
+    (refuse why unless length (L .departures) is n)
+    andThen (refuse why unless length (L .driving) is n)
+    andThen (refuse why unless length (L .delays) is n)
+    andThen (refuse why unless length (L .passengers) is k)
     andThen Fine
 
 -- m is 0 or over 64; T is 0 or over 1,440
@@ -40,7 +40,9 @@ rangesVerdict m T =
     andThen (refuse Period when 1440 below T)
     andThen Fine
 
--- the planned arrival of the train before train i; train 1 has none before it, and 0 stands there
+-- the earliest minute at which train i may leave: the planned arrival of the train before it, that train's departure and its
+-- driving time; for train 1 it is 0. The slack at station i is the departure of train i less this, so that it is under 0
+-- exactly where the departure is below this
 unfoldable pub earliestOf : Times → ℕ → ℕ
 earliestOf x i = ifBelow 1 i (x .departure (i - 1) + x .driving (i - 1)) 0
 

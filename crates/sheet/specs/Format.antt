@@ -1,11 +1,14 @@
 -- Where the fields of a sheet stand. Document 01, "The bit sheet": fields are packed most significant bit first, with
--- no gaps.
--- Trains and passenger fields count from 1, bits and bytes from 0; s is the sheet, a list of bytes, and m its number of
--- trains.
---   entry s c k     the number in place k, from 0, of the column c
---   departureOf s i, drivingOf s i, delayOf s i     of train i
---   passengersOf s f     of passenger field f
+-- no gaps. Trains and passenger fields count from 1, bits and bytes from 0; s is a sheet, a list of bytes, and m its
+-- number of trains.
+--   trainsOf s, periodOf s    m and T of the sheet
+--   Column                    fields of one width at equal distances: `width` bits from bit `first`, and again every `step`
+--   departureColumn, drivingColumn, delayColumn, passengerColumn m     the four columns behind the head
+--   entry s c k               the number in place k, from 0, of the column c
+--   departureOf s i, drivingOf s i, delayOf s i     the times of train i
+--   passengersOf s f          the passengers of field f
 --   bitsOf m, bytesOf m, pairsOf m     the bits, the bytes and the passenger fields of a sheet of m trains
+--   fillingOf s               the filling bits, as one number
 -- Assumes nothing.
 use Prim.Native.Nat.{ℕ, _+_, _-_, _*_, _/_}
 use mathlib.Core.List.{List}

@@ -1,6 +1,6 @@
 pub mod Format
-pub mod Pairs
 pub mod Numbers
+pub mod Pairs
 pub mod Checks
 pub mod Accepted
 pub mod SheetA

@@ -1,8 +1,8 @@
 -- The numbers of a line. Document 01, "The line and its numbers". Trains and passenger fields count from 1.
 --   Times        departure, driving time and source delay by train
 --   Numbers      m, T, the times, and the passengers by field
---   Lists        departures, driving times, delays and passengers as lists, whose first places are train 1 and field 1
---   timesOf s, numbersOf s         the numbers that a sheet holds
+--   Lists        the same numbers as four lists, whose first places are train 1 and field 1
+--   timesOf s, numbersOf s             the numbers that a sheet holds
 --   timesIn d r y, numbersIn m T L     the numbers that lists hold
 -- Assumes nothing.
 use Prim.Native.Nat.{ℕ}

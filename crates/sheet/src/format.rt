@@ -4,6 +4,15 @@ ghost use Prim.Native.Nat.{_≤_};
 ghost use Rattle.sheet.specs.Format.{departureColumn, drivingColumn, delayColumn};
 ghost use Rattle.sheet.specs.Format.{passengerColumn, bitsOf, bytesOf, pairsOf};
 
+// The head: m, then T.
+pub const TRAINS_AT: usize = 0;
+
+pub const TRAINS_WIDTH: usize = 7;
+
+pub const PERIOD_AT: usize = 7;
+
+pub const PERIOD_WIDTH: usize = 11;
+
 // Fields of one width at equal distances: `width` bits from bit `first`, and again every `step`
 // bits.
 pub struct Column {

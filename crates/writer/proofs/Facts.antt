@@ -1,4 +1,4 @@
--- A verdict of write that is fine, in plain facts.
+-- A verdict of write that is fine, in plain facts: the chain of checks and `Accepts` say the same.
 -- Assumes nothing.
 use mathlib.Core.Path.{_≡_}
 use Prim.Native.Nat.{ℕ}
@@ -8,13 +8,7 @@ use Rattle.sheet.specs.Format.{pairsOf}
 use Rattle.sheet.specs.Accepted.{Lengths, InRange}
 use Rattle.sheet.proofs.Facts.{lengths-of-fine, fine-of-lengths, ranges-of-fine, fine-of-ranges, in-range-of-fine}
 use Rattle.sheet.proofs.Facts.{ranges-of-in-range, fine-of-in-range}
-use Rattle.writer.specs.Write.{Given, numbersGiven, writeVerdict}
-
--- what write accepts
-pub record Accepts (room : ℕ) (G : Given) : Type 0 where
-  pub room-is : room ≡ 3907
-  pub lengths : Lengths (G .trains) (pairsOf (G .trains)) (G .lists)
-  pub range : InRange (numbersGiven G)
+use Rattle.writer.specs.Write.{Given, numbersGiven, writeVerdict, Accepts}
 
 pub accepts-of-fine : (room : ℕ) (G : Given) → writeVerdict room G ≡ Fine → Accepts room G
 unfolding writeVerdict

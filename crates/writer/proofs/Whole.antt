@@ -1,5 +1,5 @@
--- The steps of writing, put together: what each step leaves stays under the later ones, so that the result is the
--- sheet.
+-- The steps of writing, put together: what each step leaves
+-- stays under the later ones, so that the result is the sheet.
 -- Assumes nothing.
 use mathlib.Core.Path.{_≡_, _∙_}
 use mathlib.Core.List.{List}

@@ -3,7 +3,8 @@
 --   Given                     m, T and the four lists
 --   numbersGiven G            the line's numbers that they hold
 --   writeVerdict room G       all checks of write, in their order, for an output of `room` bytes
---   Write G before after a    what write answers and leaves
+--   Accepts room G            the same as plain facts
+--   Write G before after a    what write answers for G, and what it leaves of the lent bytes
 -- Assumes nothing.
 use Prim.Native.Nat.{ℕ}
 use mathlib.Core.Path.{_≡_}
@@ -18,7 +19,7 @@ use Rattle.rail.specs.Verdict.{refuse_unless_is_, _andThen_, ifFine, numberIn, 
 use Rattle.sheet.specs.Format.{bytesOf, pairsOf}
 use Rattle.sheet.specs.Numbers.{Numbers, Lists, numbersIn}
 use Rattle.sheet.specs.Checks.{lengthsVerdict, rangesVerdict, numbersVerdict}
-use Rattle.sheet.specs.Accepted.{SheetOf}
+use Rattle.sheet.specs.Accepted.{Lengths, InRange, SheetOf}
 use Rattle.writer.specs.declared.Writing.{Writing}
 use Rattle.writer.specs.declared.Writing.the-variants.{Accepted, Refused as WriteRefused}
 
@@ -57,6 +58,12 @@ writeVerdict room G =
     andThen rangesVerdict (G .trains) (G .period)
     andThen lengthsVerdict ListLength (G .trains) (pairsOf (G .trains)) (G .lists)
     andThen numbersVerdict (G .trains) (numbersGiven G .times) (numbersGiven G .passengers)
+
+-- what write accepts, in plain facts
+pub record Accepts (room : ℕ) (G : Given) : Type 0 where
+  pub room-is : room ≡ 3907
+  pub lengths : Lengths (G .trains) (pairsOf (G .trains)) (G .lists)
+  pub range : InRange (numbersGiven G)
 
 -- accepted: the sheet first, the rest unchanged; its length is returned. Refused: nothing changed, length 0
 pub record Write (G : Given) (before after : List ℕ) (a : Writing) : Type 0 where

@@ -17,6 +17,10 @@ use sheet::checks::check_lengths;
 use sheet::checks::check_numbers;
 use sheet::checks::check_ranges;
 use sheet::format::Column;
+use sheet::format::PERIOD_AT;
+use sheet::format::PERIOD_WIDTH;
+use sheet::format::TRAINS_AT;
+use sheet::format::TRAINS_WIDTH;
 use sheet::format::bits_of;
 use sheet::format::bytes_of;
 use sheet::format::pairs_of;
@@ -117,8 +121,8 @@ fn put_head(sheet: &mut [u8], m: u32, period: u32)
     requires { ⌜ HeadRoom (now sheet) m period ⌝ }
     ensures { λ _. ⌜ HeadPut (now (sheet .entry)) m period (now (sheet .exit)) ⌝ }
 {
-    put(sheet, 0, 7, m);
-    put(sheet, 7, 11, period);
+    put(sheet, TRAINS_AT, TRAINS_WIDTH, m);
+    put(sheet, PERIOD_AT, PERIOD_WIDTH, period);
 }
 
 // The times of trains 1 to `m`, column by column.

@@ -1,5 +1,5 @@
--- `bits::field` meets its contract. Invariant: the number so far is the field of the bits passed. Measure: the bits
--- left.
+-- `bits::field` meets its contract. Invariant: the number so
+-- far is the field of the bits passed. Measure: the bits left.
 -- Assumes nothing.
 use borrow.Author.Needs.{needs}
 use mathlib.Core.Path.{_≡_, sym, ap, _∙_}

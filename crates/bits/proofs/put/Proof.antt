@@ -1,5 +1,5 @@
--- `bits::put` meets its contract. Invariant: the last bits of the value stand, `rest` holds the others. Measure: the
--- bits left.
+-- `bits::put` meets its contract. Invariant: the last bits of the
+-- value stand, `rest` holds the others. Measure: the bits left.
 -- Assumes nothing.
 use borrow.Author.Needs.{needs}
 use mathlib.Core.Path.{_≡_, refl, sym, ap, subst, _∙_}

@@ -1,21 +1,22 @@
 -- `reader::decode` meets its contract: the head's refusal if there is one, else the body's answer.
 -- Assumes nothing.
 use borrow.Author.Needs.{needs}
-use mathlib.Core.Path.{_≡_, refl, sym, ap, _∙_}
+use mathlib.Core.Path.{_≡_, refl, sym, ap, subst, _∙_}
 use Prim.Native.Nat.{ℕ}
 use mathlib.Core.List.{List}
 use native.Mathlib.Omega.{arith}
 use Rattle.rail.specs.declared.Refusal.{Refusal}
 use Rattle.rail.specs.declared.Verdict.{Verdict}
 use Rattle.rail.specs.declared.Verdict.the-variants.{Refused}
-use Rattle.rail.proofs.Checks.{refused-not-fine, then-stop, then-pass}
+use Rattle.rail.proofs.Checks.{then-stop, then-pass}
 use Rattle.sheet.specs.Format.{trainsOf, periodOf, bytesOf}
 use Rattle.sheet.specs.Checks.{headVerdict, bodyVerdict, sheetVerdict}
 use Rattle.sheet.proofs.Facts.{headed-of-fine}
 use Rattle.reader.specs.declared.Reading.the-variants.{Accepted, Refused as ReadRefused}
 use Rattle.reader.specs.Read.{readingOf}
-use Rattle.reader.specs.Decode.{Head}
-use Rattle.reader.proofs.Answers.{reading-refused, accepted-fine, refused-verdict}
+use Rattle.reader.specs.Decode.{Head, Decoding}
+use Rattle.reader.proofs.Answers.{accepted-fine, refused-verdict}
+use Rattle.reader.proofs.Outcome.{decoding-refused}
 use Rattle.reader.proofs.decode.Statement.{statement}
 use Rattle.reader.proofs.decode.Tie as tie
 
@@ -37,11 +38,9 @@ module _ (s : List ℕ) {m T : ℕ} (e : Accepted m T ≡ readingOf (headVerdict
         long = h .long ∙ ap bytesOf (sym (a .1));
       }
 
-  body-answers : readingOf (bodyVerdict s) m T ≡ readingOf (sheetVerdict s) (trainsOf s) (periodOf s)
+  body-decides : bodyVerdict s ≡ sheetVerdict s
   unfolding sheetVerdict
-  body-answers =
-      let a = accepted-fine (headVerdict s) _ _ e in
-      rw (a .1, a .2) (ap (λ (v : Verdict). readingOf v (trainsOf s) (periodOf s)) (then-pass _ _ _ (a .0) refl))
+  body-decides = then-pass _ _ _ (accepted-fine (headVerdict s) _ _ e .0) refl
 
 head-refused : (s : List ℕ) {r : Refusal} → ReadRefused r ≡ readingOf (headVerdict s) (trainsOf s) (periodOf s)
     → Refused r ≡ sheetVerdict s
@@ -50,27 +49,25 @@ head-refused s e = then-stop _ _ refl (sym (refused-verdict (headVerdict s) _ _ 
 
 decode-body-requires : tie.Need-decode-body-requires
 decode-body-requires c κs =
-    head-passed _ (sym (c .before .head .given .1) ∙ c .before .before .before .read-head .ensures)
+    let e = sym (c .before .head .given .1) ∙ c .before .before .before .read-head .ensures in
+    (head-passed _ e, accepted-fine (headVerdict _) _ _ e .2)
 
 enum-known-head-2 : tie.Need-enum-known-head-2
 enum-known-head-2 c = search needs
 
-no-columns-requires : tie.Need-no-columns-requires
-no-columns-requires c κs = search needs
+refused-requires : tie.Need-refused-requires
+refused-requires c κs = search needs
 
 returns : tie.Need-returns
 returns c =
+    let s = c .before .before .before .before .before .before .args .sheet .now in
     let e = sym (c .before .before .head .given .1) ∙ c .before .before .before .before .read-head .ensures in
-    record {
-      answer = c .decode-body .ensures .0 ∙ body-answers _ e;
-      columns = λ fine. c .decode-body .ensures .1;
-    }
+    subst (λ (v : Verdict). Decoding v s (c .decode-body .result)) (body-decides s e) (c .decode-body .ensures)
 
 returns-2 : tie.Need-returns-2
 returns-2 c =
-    let e = head-refused _
-    (sym (c .before .before .head2 .given .1) ∙ c .before .before .before .before .read-head .ensures) in
-    record { answer = reading-refused _ _ _ e; columns = λ fine. refused-not-fine (e ∙ fine) }
+    let e = sym (c .before .before .head2 .given .1) ∙ c .before .before .before .before .read-head .ensures in
+    decoding-refused _ _ _ (head-refused _ e) (c .refused .ensures .0) (c .refused .ensures .1)
 
 pub decode-spec : {M : Type 1} → statement M
 decode-spec =
@@ -80,6 +77,6 @@ decode-spec =
     enum-known-head
     decode-body-requires
     enum-known-head-2
-    no-columns-requires
+    refused-requires
     returns
     returns-2)

@@ -12,7 +12,7 @@ use Rattle.sheet.specs.Checks.{lengthsVerdict, sheetVerdict}
 use Rattle.sheet.proofs.Facts.{lengths-of-fine}
 use Rattle.reader.specs.Read.{readVerdict, readingOf}
 use Rattle.reader.proofs.Answers.{accepted-fine, refused-verdict}
-use Rattle.reader.proofs.Outcome.{read-refused, read-accepted, columns-fit}
+use Rattle.reader.proofs.Outcome.{read-refused, read-accepted, decoding-columns, columns-fit}
 use Rattle.reader.proofs.read.Statement.{statement}
 use Rattle.reader.proofs.read.Tie as tie
 
@@ -95,7 +95,7 @@ store-requires c κs =
     let told = c .before .before .before .before .before in
     let decoded = told .before .before in
     columns-fit _ _ _ (lengths-of-fine _ _ _ _ (right-lengths (decoded .before)))
-    (decoded .decode .ensures .columns (right-sheet told))
+    (decoding-columns _ _ _ (right-sheet told) (decoded .decode .ensures))
 
 same-length-9 : tie.Need-same-length-9
 same-length-9 c = search needs
@@ -120,7 +120,7 @@ returns-3 c =
     let answer = decoded .decode .ensures .answer ∙ ap (λ (v : Verdict). readingOf v (trainsOf s) (periodOf s)) fine in
     read-accepted _ _ _ _ answer
     (then-pass _ _ _ (right-lengths (decoded .before)) (sym fine))
-    (decoded .decode .ensures .columns fine)
+    (decoding-columns _ _ _ fine (decoded .decode .ensures))
     (stored .store .ensures)
 
 pub read-spec : {M : Type 1} → statement M

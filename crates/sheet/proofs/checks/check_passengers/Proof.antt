@@ -1,5 +1,5 @@
--- `checks::check_passengers` meets its contract. Invariant: the fields from f on are still to be checked. Measure: how
--- many.
+-- `checks::check_passengers` meets its contract. Invariant: the
+-- fields from f on are still to be checked. Measure: how many.
 -- Assumes nothing.
 use borrow.Author.Needs.{needs}
 use mathlib.Core.Path.{refl}

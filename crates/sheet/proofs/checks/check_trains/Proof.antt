@@ -1,5 +1,5 @@
--- `checks::check_trains` meets its contract. Invariant: the trains from i on are still to be checked. Measure: how
--- many.
+-- `checks::check_trains` meets its contract. Invariant: the
+-- trains from i on are still to be checked. Measure: how many.
 -- Assumes nothing.
 use borrow.Author.Needs.{needs}
 use Prim.Native.Nat.{_+_, _-_}
