@@ -1,0 +1,24 @@
+# The commands of the project. `make` alone lists them.
+
+.PHONY: help run test vectors format
+
+help:
+	@echo 'make run       prove read and write, run them on the list of document 01 and show what they answer'
+	@echo 'make test      the gate: prove everything from nothing, try the wrong versions, run the programs (3 minutes)'
+	@echo 'make vectors   compare the test inputs with the independent reading of document 01 that made them (python3)'
+	@echo 'make format    lay out every source file'
+
+run:
+	@command -v rt > /dev/null || { echo 'rt, the command of the Rattle toolchain, is not on the PATH' >&2; exit 1; }
+	@rt check sheet_cases > /dev/null || { rt check sheet_cases; exit 1; }
+	@cat target/log/sheet_cases.stdout
+
+test:
+	@bash .ci/run
+
+vectors:
+	python3 tests/cases.py --check
+	python3 tests/sheets.py --check
+
+format:
+	rt fmt
