@@ -13,7 +13,7 @@ use Rattle.sheet.specs.Numbers.{lists, numbersOf, numbersIn}
 use Rattle.sheet.specs.Checks.{Room}
 use Rattle.sheet.specs.Accepted.{SameNumbers}
 use Rattle.sheet.proofs.Lengths.{layout, bytes-bits, pairs-le}
-use Rattle.reader.specs.declared.Columns.{Columns}
+use Rattle.reader.specs.declared.decoding.Columns.{Columns}
 use Rattle.reader.specs.Decode.{ColumnRoom, Head, ColumnsOf}
 
 module _ (s : List ℕ) (m : ℕ) (h : Head s m) where

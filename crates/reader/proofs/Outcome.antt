@@ -15,8 +15,8 @@ use Rattle.sheet.specs.Numbers.{Lists}
 use Rattle.sheet.specs.Accepted.{Lengths}
 use Rattle.reader.specs.declared.Reading.{Reading}
 use Rattle.reader.specs.declared.Reading.the-variants.{Accepted, Refused as ReadRefused}
-use Rattle.reader.specs.declared.Columns.{Columns}
-use Rattle.reader.specs.declared.Decoded.{Decoded}
+use Rattle.reader.specs.declared.decoding.Columns.{Columns}
+use Rattle.reader.specs.declared.decoding.Decoded.{Decoded}
 use Rattle.reader.specs.Read.{readNumber, readPlace, readTrains, readPeriod, readVerdict, Read}
 use Rattle.reader.specs.Decode.{ColumnsOf, NoColumns, Decoding, Fits, Stored}
 use Rattle.reader.proofs.Answers.{reading-refused, reading-accepted}

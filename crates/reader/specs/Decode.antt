@@ -11,8 +11,8 @@ use Rattle.rail.specs.Verdict.{ifFine}
 use Rattle.sheet.specs.declared.format.Column.{Column}
 use Rattle.sheet.specs.Format.{trainsOf, periodOf, departureOf, drivingOf, delayOf, passengersOf, bytesOf, pairsOf}
 use Rattle.sheet.specs.Numbers.{Lists}
-use Rattle.reader.specs.declared.Columns.{Columns}
-use Rattle.reader.specs.declared.Decoded.{Decoded}
+use Rattle.reader.specs.declared.decoding.Columns.{Columns}
+use Rattle.reader.specs.declared.decoding.Decoded.{Decoded}
 use Rattle.reader.specs.Read.{readingOf}
 
 -- n places of the column lie in the sheet, and a list of `size` has room for them

@@ -4,8 +4,6 @@ use mathlib.Core.Path.{_≡_}
 use Prim.Native.Nat.{ℕ}
 use Rattle.rail.specs.declared.Verdict.the-variants.{Fine}
 use Rattle.rail.proofs.Checks.{then-fine, fine-then, is-same, fine-same}
-use Rattle.sheet.specs.Format.{pairsOf}
-use Rattle.sheet.specs.Accepted.{Lengths, InRange}
 use Rattle.sheet.proofs.Facts.{lengths-of-fine, fine-of-lengths, ranges-of-fine, fine-of-ranges, in-range-of-fine}
 use Rattle.sheet.proofs.Facts.{ranges-of-in-range, fine-of-in-range}
 use Rattle.writer.specs.Write.{Given, numbersGiven, writeVerdict, Accepts}

@@ -1,4 +1,4 @@
--- `reader::decode` meets its contract: the head's refusal if there is one, else the body's answer.
+-- `decoding::decode` meets its contract: the head's refusal if there is one, else the body's answer.
 -- Assumes nothing.
 use borrow.Author.Needs.{needs}
 use mathlib.Core.Path.{_≡_, refl, sym, ap, subst, _∙_}
@@ -17,8 +17,8 @@ use Rattle.reader.specs.Read.{readingOf}
 use Rattle.reader.specs.Decode.{Head, Decoding}
 use Rattle.reader.proofs.Answers.{accepted-fine, refused-verdict}
 use Rattle.reader.proofs.Outcome.{decoding-refused}
-use Rattle.reader.proofs.decode.Statement.{statement}
-use Rattle.reader.proofs.decode.Tie as tie
+use Rattle.reader.proofs.decoding.decode.Statement.{statement}
+use Rattle.reader.proofs.decoding.decode.Tie as tie
 
 read-head-requires : tie.Need-read-head-requires
 read-head-requires c κs = search needs

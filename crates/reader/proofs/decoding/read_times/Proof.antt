@@ -1,9 +1,9 @@
--- `reader::read_times` meets its contract: the column is filled over zeros.
+-- `decoding::read_times` meets its contract: the column is filled over zeros.
 -- Assumes nothing.
 use borrow.Author.Needs.{needs}
 use Rattle.lists.proofs.Fill.{filled-padded}
-use Rattle.reader.proofs.read_times.Statement.{statement}
-use Rattle.reader.proofs.read_times.Tie as tie
+use Rattle.reader.proofs.decoding.read_times.Statement.{statement}
+use Rattle.reader.proofs.decoding.read_times.Tie as tie
 
 slice-aggregate-read-column : tie.Need-slice-aggregate-read-column
 slice-aggregate-read-column c = search needs

@@ -1,4 +1,4 @@
--- `reader::read_column` meets its contract. Invariant: the places passed are filled. Measure: the places left.
+-- `decoding::read_column` meets its contract. Invariant: the places passed are filled. Measure: the places left.
 -- Assumes nothing.
 use borrow.Author.Needs.{needs}
 use mathlib.Core.Path.{_≡_}
@@ -8,8 +8,8 @@ use Rattle.bits.specs.Field.{Within}
 use Rattle.lists.specs.Filled.{Filled}
 use Rattle.lists.proofs.Fill.{filled-none, filled-next}
 use Rattle.sheet.specs.Format.{entry}
-use Rattle.reader.proofs.read_column.Statement.{statement}
-use Rattle.reader.proofs.read_column.Tie as tie
+use Rattle.reader.proofs.decoding.read_column.Statement.{statement}
+use Rattle.reader.proofs.decoding.read_column.Tie as tie
 
 abbrev Inv-loop : tie.InvT-loop
 Inv-loop list₀ sheet n first step width k₀ list k =

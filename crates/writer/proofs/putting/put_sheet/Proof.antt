@@ -1,10 +1,10 @@
--- `writer::put_sheet` meets its contract: head, times, passengers and filling make the sheet.
+-- `putting::put_sheet` meets its contract: head, times, passengers and filling make the sheet.
 -- Assumes nothing.
 use borrow.Author.Needs.{needs}
 use mathlib.Core.Path.{refl, _∙_}
 use Rattle.writer.proofs.Whole.{head-room, times-room, passengers-room, sheet-put}
-use Rattle.writer.proofs.put_sheet.Statement.{statement}
-use Rattle.writer.proofs.put_sheet.Tie as tie
+use Rattle.writer.proofs.putting.put_sheet.Statement.{statement}
+use Rattle.writer.proofs.putting.put_sheet.Tie as tie
 
 -- from where the head is put back to the entry, and from the times to the head
 abbrev entry-of : tie.After-put-head → tie.Start

@@ -1,9 +1,9 @@
--- `reader::read_passengers` meets its contract: the column is filled over zeros.
+-- `decoding::read_passengers` meets its contract: the column is filled over zeros.
 -- Assumes nothing.
 use borrow.Author.Needs.{needs}
 use Rattle.lists.proofs.Fill.{filled-padded}
-use Rattle.reader.proofs.read_passengers.Statement.{statement}
-use Rattle.reader.proofs.read_passengers.Tie as tie
+use Rattle.reader.proofs.decoding.read_passengers.Statement.{statement}
+use Rattle.reader.proofs.decoding.read_passengers.Tie as tie
 
 slice-aggregate-read-column : tie.Need-slice-aggregate-read-column
 slice-aggregate-read-column c = search needs

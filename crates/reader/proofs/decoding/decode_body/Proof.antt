@@ -1,10 +1,10 @@
--- `reader::decode_body` meets its contract: the body's refusal if there is one, else the columns.
+-- `decoding::decode_body` meets its contract: the body's refusal if there is one, else the columns.
 -- Assumes nothing.
 use borrow.Author.Needs.{needs}
 use mathlib.Core.Path.{refl, sym, _∙_}
 use Rattle.reader.proofs.Outcome.{decoding-refused, decoding-accepted}
-use Rattle.reader.proofs.decode_body.Statement.{statement}
-use Rattle.reader.proofs.decode_body.Tie as tie
+use Rattle.reader.proofs.decoding.decode_body.Statement.{statement}
+use Rattle.reader.proofs.decoding.decode_body.Tie as tie
 
 read-columns-requires : tie.Need-read-columns-requires
 read-columns-requires c κs = search needs

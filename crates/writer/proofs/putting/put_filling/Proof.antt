@@ -1,11 +1,11 @@
--- `writer::put_filling` meets its contract: the filling is at most seven bits of the last byte.
+-- `putting::put_filling` meets its contract: the filling is at most seven bits of the last byte.
 -- Assumes nothing.
 use borrow.Author.Needs.{needs}
 use native.Mathlib.Omega.{arith}
 use lib.Pow.{pow-pos}
 use Rattle.sheet.proofs.Lengths.{bits-le, bytes-bits}
-use Rattle.writer.proofs.put_filling.Statement.{statement}
-use Rattle.writer.proofs.put_filling.Tie as tie
+use Rattle.writer.proofs.putting.put_filling.Statement.{statement}
+use Rattle.writer.proofs.putting.put_filling.Tie as tie
 
 bits-of-requires : tie.Need-bits-of-requires
 bits-of-requires c κs = search needs

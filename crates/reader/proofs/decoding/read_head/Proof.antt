@@ -1,4 +1,4 @@
--- `reader::read_head` meets its contract: each answer is the first check that refuses.
+-- `decoding::read_head` meets its contract: each answer is the first check that refuses.
 -- Assumes nothing.
 use borrow.Author.Needs.{needs}
 use mathlib.Core.Path.{_≡_, refl, sym, ap, ap₂, _∙_}
@@ -9,8 +9,8 @@ use Rattle.sheet.specs.Format.{trainsOf, periodOf, bytesOf}
 use Rattle.sheet.specs.Checks.{rangesVerdict, headVerdict}
 use Rattle.sheet.proofs.Facts.{ranges-of-fine}
 use Rattle.reader.proofs.Answers.{reading-refused, reading-accepted}
-use Rattle.reader.proofs.read_head.Statement.{statement}
-use Rattle.reader.proofs.read_head.Tie as tie
+use Rattle.reader.proofs.decoding.read_head.Statement.{statement}
+use Rattle.reader.proofs.decoding.read_head.Tie as tie
 
 -- from where m and T are checked back to the entry
 abbrev entry-of : tie.After-check-ranges → tie.Start

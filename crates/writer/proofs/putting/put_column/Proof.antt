@@ -1,4 +1,4 @@
--- `writer::put_column` meets its contract. Invariant: the places passed are put. Measure: the places left.
+-- `putting::put_column` meets its contract. Invariant: the places passed are put. Measure: the places left.
 -- Assumes nothing.
 use borrow.Author.Needs.{needs}
 use mathlib.Core.Path.{_≡_}
@@ -8,8 +8,8 @@ use Rattle.bits.specs.Field.{Within}
 use Rattle.bits.proofs.Fields.{within-same}
 use Rattle.writer.specs.Steps.{ColumnPut}
 use Rattle.writer.proofs.Columns.{column-none, column-next}
-use Rattle.writer.proofs.put_column.Statement.{statement}
-use Rattle.writer.proofs.put_column.Tie as tie
+use Rattle.writer.proofs.putting.put_column.Statement.{statement}
+use Rattle.writer.proofs.putting.put_column.Tie as tie
 
 abbrev Inv-loop : tie.InvT-loop
 Inv-loop sheet₀ n list first step width k₀ sheet k =

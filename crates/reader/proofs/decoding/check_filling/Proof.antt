@@ -1,4 +1,4 @@
--- `reader::check_filling` meets its contract: the filling is at most seven bits of the last byte.
+-- `decoding::check_filling` meets its contract: the filling is at most seven bits of the last byte.
 -- Assumes nothing.
 use borrow.Author.Needs.{needs}
 use mathlib.Core.Path.{refl, ap, _∙_}
@@ -7,8 +7,8 @@ use Rattle.rail.proofs.Checks.{hit, miss}
 use Rattle.sheet.specs.Format.{bitsOf}
 use Rattle.sheet.specs.Checks.{fillingVerdict}
 use Rattle.sheet.proofs.Lengths.{bits-le, bytes-bits}
-use Rattle.reader.proofs.check_filling.Statement.{statement}
-use Rattle.reader.proofs.check_filling.Tie as tie
+use Rattle.reader.proofs.decoding.check_filling.Statement.{statement}
+use Rattle.reader.proofs.decoding.check_filling.Tie as tie
 
 bits-of-requires : tie.Need-bits-of-requires
 bits-of-requires c κs = search needs

@@ -1,4 +1,4 @@
--- `reader::read_columns` meets its contract: every field lies within the sheet.
+-- `decoding::read_columns` meets its contract: every field lies within the sheet.
 -- Assumes nothing.
 use borrow.Author.Needs.{needs}
 use mathlib.Core.Path.{_≡_, ap, ap₂, _∙_}
@@ -9,8 +9,8 @@ use Rattle.lists.specs.Run.{padded}
 use Rattle.sheet.specs.declared.format.Column.{Column}
 use Rattle.sheet.specs.Format.{entry, passengerColumn, pairsOf}
 use Rattle.reader.proofs.Held.{train-room, passenger-room}
-use Rattle.reader.proofs.read_columns.Statement.{statement}
-use Rattle.reader.proofs.read_columns.Tie as tie
+use Rattle.reader.proofs.decoding.read_columns.Statement.{statement}
+use Rattle.reader.proofs.decoding.read_columns.Tie as tie
 
 departures-requires : tie.Need-departures-requires
 departures-requires c κs = search needs

@@ -1,12 +1,12 @@
--- `writer::put_times` meets its contract: each column has its room, and later columns leave earlier ones as they are.
+-- `putting::put_times` meets its contract: each column has its room, and later columns leave earlier ones as they are.
 -- Assumes nothing.
 use borrow.Author.Needs.{needs}
 use mathlib.Core.Path.{refl, _∙_}
 use Rattle.sheet.specs.Format.{departureColumn, drivingColumn}
 use Rattle.writer.specs.Steps.{ColumnPut}
 use Rattle.writer.proofs.Whole.{departures-room, driving-room, delays-room, times-put}
-use Rattle.writer.proofs.put_times.Statement.{statement}
-use Rattle.writer.proofs.put_times.Tie as tie
+use Rattle.writer.proofs.putting.put_times.Statement.{statement}
+use Rattle.writer.proofs.putting.put_times.Tie as tie
 
 departures-requires : tie.Need-departures-requires
 departures-requires c κs = search needs

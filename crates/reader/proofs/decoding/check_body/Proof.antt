@@ -1,4 +1,4 @@
--- `reader::check_body` meets its contract: the columns hold the sheet's numbers, so that their verdict is the sheet's.
+-- `decoding::check_body` meets its contract: the columns hold the sheet's numbers, so that their verdict is the sheet's.
 -- Assumes nothing.
 use borrow.Author.Needs.{needs}
 use mathlib.Core.Path.{_≡_, sym, _∙_}
@@ -8,8 +8,8 @@ use Rattle.sheet.specs.Numbers.{timesOf}
 use Rattle.sheet.specs.Checks.{numbersVerdict, bodyVerdict}
 use Rattle.sheet.proofs.Meaning.{verdict-same}
 use Rattle.reader.proofs.Held.{columns-room, columns-same}
-use Rattle.reader.proofs.check_body.Statement.{statement}
-use Rattle.reader.proofs.check_body.Tie as tie
+use Rattle.reader.proofs.decoding.check_body.Statement.{statement}
+use Rattle.reader.proofs.decoding.check_body.Tie as tie
 
 slice-aggregate-check-numbers : tie.Need-slice-aggregate-check-numbers
 slice-aggregate-check-numbers c = search needs

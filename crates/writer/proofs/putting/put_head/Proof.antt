@@ -1,12 +1,12 @@
--- `writer::put_head` meets its contract: T does not touch m.
+-- `putting::put_head` meets its contract: T does not touch m.
 -- Assumes nothing.
 use borrow.Author.Needs.{needs}
 use mathlib.Core.Path.{_∙_}
 use mathlib.Core.Logic.{inl}
 use lib.Dec.{lit≤}
 use Rattle.bits.proofs.Puts.{put-apart}
-use Rattle.writer.proofs.put_head.Statement.{statement}
-use Rattle.writer.proofs.put_head.Tie as tie
+use Rattle.writer.proofs.putting.put_head.Statement.{statement}
+use Rattle.writer.proofs.putting.put_head.Tie as tie
 
 put-requires : tie.Need-put-requires
 put-requires c κs = search needs
