@@ -10,6 +10,7 @@ help:
 
 run:
 	@command -v rt > /dev/null || { echo 'rt, the command of the Rattle toolchain, is not on the PATH' >&2; exit 1; }
+	@echo 'proving what read and write rest on (a minute or two the first time) ..' >&2
 	@rt check sheet_cases > /dev/null || { rt check sheet_cases; exit 1; }
 	@cat target/log/sheet_cases.stdout
 
