@@ -154,38 +154,46 @@ module _ (s : List ℕ) (before after : Lists) (a : Reading) (ok : AcceptedSheet
     (h : Read s before after a) where
   read-fine : readVerdict s before ≡ Fine
   unfolding readVerdict
-  read-fine =
-      fine-then (fine-of-lengths _ _ _ _ room) (fine-of-accepted s ok)
+  read-fine = fine-then (fine-of-lengths _ _ _ _ room) (fine-of-accepted s ok)
 
   read-answer : a ≡ ReadAccepted (trainsOf s) (periodOf s)
   read-answer = h .answer ∙ ap (λ (v : Verdict). readingOf v (trainsOf s) (periodOf s)) read-fine
 
 module _ (G : Given) (s : List ℕ) (after : Lists) (accepts : Accepts 3907 G) (sheet : SheetOf (numbersGiven G) s)
     (g : Got s after (trainsOf s) (periodOf s)) where
+  few : trainsOf s ≤ 64
+  few = g .ok .numbers .trains-most
+
+  trains-back : trainsOf s ≡ G .trains
+  trains-back = sheet .numbers .trains
+
+  departures-back : take (trainsOf s) (after .departures) ≡ G .lists .departures
+  departures-back =
+      first-same _ _ 64 _ (departureOf s) (g .departures) few (accepts .lengths .departures ∙ sym trains-back)
+      (λ i a b. sheet .numbers .departure i a (omega (arith, trains-back)))
+
+  driving-back : take (trainsOf s) (after .driving) ≡ G .lists .driving
+  driving-back =
+      first-same _ _ 64 _ (drivingOf s) (g .driving) few (accepts .lengths .driving ∙ sym trains-back)
+      (λ i a b. sheet .numbers .driving i a (omega (arith, trains-back)))
+
+  delays-back : take (trainsOf s) (after .delays) ≡ G .lists .delays
+  delays-back =
+      first-same _ _ 64 _ (delayOf s) (g .delays) few (accepts .lengths .delays ∙ sym trains-back)
+      (λ i a b. sheet .numbers .delay i a (omega (arith, trains-back)))
+
+  passengers-back : take (pairsOf (trainsOf s)) (after .passengers) ≡ G .lists .passengers
+  passengers-back =
+      let pairs = ap pairsOf trains-back in
+      first-same _ _ 2080 _ (passengersOf s) (g .passengers) (pairs-le _ few) (accepts .lengths .passengers ∙ sym pairs)
+      (λ f a b. sheet .numbers .passengers f a (omega arith))
+
   lists-back : givenFrom (trainsOf s) (periodOf s) after ≡ G
   lists-back =
-      let n : trainsOf s ≤ 64 = g .ok .numbers .trains-most in
-      let same = sheet .numbers in
-      let m = same .trains in
-      let long = accepts .lengths in
-      let pairs = ap pairsOf m in
-      let departures : take (trainsOf s) (after .departures) ≡ G .lists .departures = first-same _
-      (G .lists .departures) 64 _ (departureOf s)
-      (g .departures) n (long .departures ∙ sym m) (λ i a b. same .departure i a (omega arith)) in
-      let driving : take (trainsOf s) (after .driving) ≡ G .lists .driving = first-same _ (G .lists .driving) 64 _
-      (drivingOf s)
-      (g .driving) n (long .driving ∙ sym m) (λ i a b. same .driving i a (omega arith)) in
-      let delays : take (trainsOf s) (after .delays) ≡ G .lists .delays = first-same _ (G .lists .delays) 64 _
-      (delayOf s)
-      (g .delays) n (long .delays ∙ sym m) (λ i a b. same .delay i a (omega arith)) in
-      let passengers : take (pairsOf (trainsOf s)) (after .passengers) ≡ G .lists .passengers
-      = first-same _ (G .lists .passengers) 2080 _ (passengersOf s) (g .passengers) (pairs-le _ n)
-      (long .passengers ∙ sym pairs)
-      (λ f a b. same .passengers f a (omega arith)) in
       λ i. record {
-        trains = m i;
-        period = same .period i;
-        lists = lists (departures i) (driving i) (delays i) (passengers i);
+        trains = trains-back i;
+        period = sheet .numbers .period i;
+        lists = lists (departures-back i) (driving-back i) (delays-back i) (passengers-back i);
       }
 
 module _ (G : Given) (buffer written : List ℕ) (n : ℕ) (h : Write G buffer written (WriteAccepted n)) where
