@@ -56,7 +56,7 @@ pub same-sym : (N M : Numbers) → SameNumbers N M → SameNumbers M N
 same-sym N M h = same-both M N M (same-refl M) h
 
 earliest-same : (N M : Numbers) → SameNumbers N M → (i : ℕ) → 1 ≤ i → i ≤ M .trains
-    → earliestOf (N .times) i ≡ earliestOf (M .times) i
+    → earliestOf (N .times .departure) (N .times .driving) i ≡ earliestOf (M .times .departure) (M .times .driving) i
 unfolding earliestOf
 earliest-same N M h i a b =
     ⊎-elim

@@ -27,7 +27,7 @@ pub record TrainInRange (x : Times) (i : ℕ) : Type 0 where
   pub driving : x .driving i ≤ 1023
   pub delay : x .delay i ≤ 1440
   -- the slack is 0 or more
-  pub slack : earliestOf x i ≤ x .departure i
+  pub slack : earliestOf (x .departure) (x .driving) i ≤ x .departure i
 
 pub record InRange (N : Numbers) : Type 0 where
   pub trains-least : 1 ≤ N .trains

@@ -40,11 +40,11 @@ rangesVerdict m T =
     andThen (refuse Period when 1440 below T)
     andThen Fine
 
--- the earliest minute at which train i may leave: the planned arrival of the train before it, that train's departure and its
--- driving time; for train 1 it is 0. The slack at station i is the departure of train i less this, so that it is under 0
--- exactly where the departure is below this
-unfoldable pub earliestOf : Times → ℕ → ℕ
-earliestOf x i = ifBelow 1 i (x .departure (i - 1) + x .driving (i - 1)) 0
+-- the earliest minute at which train i may leave: when the train before it is planned to arrive, that is its departure
+-- and its driving time; for train 1 it is 0. The slack at station i is the departure of train i less this, so that it is
+-- under 0 exactly where the departure is below this
+unfoldable pub earliestOf : (ℕ → ℕ) → (ℕ → ℕ) → ℕ → ℕ
+earliestOf departure driving i = ifBelow 1 i (departure (i - 1) + driving (i - 1)) 0
 
 -- departure over 2,879; driving time over 1,023; source delay over 1,440; slack under 0
 unfoldable pub trainVerdict : Times → ℕ → Verdict
@@ -52,7 +52,7 @@ trainVerdict x i =
     (refuse (Departure (train i)) when 2879 below x .departure i)
     andThen (refuse (Driving (train i)) when 1023 below x .driving i)
     andThen (refuse (SourceDelay (train i)) when 1440 below x .delay i)
-    andThen (refuse (Slack (train i)) when x .departure i below earliestOf x i)
+    andThen (refuse (Slack (train i)) when x .departure i below earliestOf (x .departure) (x .driving) i)
     andThen Fine
 
 -- passengers over 10,000

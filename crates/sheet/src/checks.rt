@@ -63,10 +63,9 @@ pub fn check_ranges(m: u32, period: u32) -> Verdict
 
 // The earliest minute at which a train may leave: when its feeder is planned to arrive. Train 1 has
 // none and may leave at 0.
-fn earliest(train: Train, departures: &[u32], driving: &[u32], delays: &[u32]) -> u64
-    requires { ⌜ TrainRoom (train .0) (now departures) (now driving) (now delays) ⌝ }
-    ensures { λ r. ⌜ r ≡ earliestOf
-        (timesIn (now (departures .entry)) (now (driving .entry)) (now (delays .entry)))
+fn earliest(train: Train, departures: &[u32], driving: &[u32]) -> u64
+    requires { ⌜ (train .0 ≤ length (now departures)) × (train .0 ≤ length (now driving)) ⌝ }
+    ensures { λ r. ⌜ r ≡ earliestOf (nth (now (departures .entry))) (nth (now (driving .entry)))
         (train .0) ⌝ }
 {
     if 1 < train.0 {
@@ -95,7 +94,7 @@ fn check_train(train: Train, departures: &[u32], driving: &[u32], delays: &[u32]
         return Verdict::Refused(Refusal::SourceDelay(train));
     }
     let departure = departures[k] as u64;
-    if departure < earliest(train, departures, driving, delays) {
+    if departure < earliest(train, departures, driving) {
         return Verdict::Refused(Refusal::Slack(train));
     }
     Verdict::Fine

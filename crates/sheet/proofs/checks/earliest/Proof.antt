@@ -25,7 +25,7 @@ shared-slice-read-result : tie.Need-shared-slice-read-result
 shared-slice-read-result c = search needs
 
 cast-result : tie.Need-cast-result
-cast-result c = omega (arith, c .shared-slice-known4 .given (c .before .index .result))
+cast-result c = omega (arith, c .shared-slice-known3 .given (c .before .index .result))
 
 mul-result-2 : tie.Need-mul-result-2
 mul-result-2 c = search needs
@@ -34,18 +34,18 @@ shared-slice-read-result-2 : tie.Need-shared-slice-read-result-2
 shared-slice-read-result-2 c = search needs
 
 cast-result-2 : tie.Need-cast-result-2
-cast-result-2 c = omega (arith, c .shared-slice-known5 .given (c .before .before .index .result))
+cast-result-2 c = omega (arith, c .shared-slice-known4 .given (c .before .before .index .result))
 
 add-result : tie.Need-add-result
 add-result c =
     let k = c .before .before .index .result in
-    omega (arith, c .before .shared-slice-known4 .given k, c .shared-slice-known5 .given k)
+    omega (arith, c .before .shared-slice-known3 .given k, c .shared-slice-known4 .given k)
 
 returns : tie.Need-returns
 unfolding earliestOf
 returns c =
     let called = c .before .before in
-    let i = called .before .before .before .before .before .before .before .before .args .train .0 in
+    let i = called .before .before .before .before .before .before .before .args .train .0 in
     let e : called .index .result ≡ i - 1 - 1 = omega arith in
     rw e (sym (below-yes _ _ (omega arith)))
 
