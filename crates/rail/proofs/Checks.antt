@@ -5,6 +5,7 @@
 use mathlib.Core.Path.{_≡_, refl, sym, ap, subst, _∙_}
 use mathlib.Core.Logic.{_⊎_, inl, inr, ⊎-elim}
 use Prim.Native.Nat.{ℕ, zero, suc, _+_, _-_, _≤_, _<_}
+use borrow.Author.Needs.{needs}
 use native.Mathlib.Nat.{eq-or-lt-of-le}
 use native.Mathlib.Decide.{ℕ-discrete}
 use native.Mathlib.Omega.{arith}
@@ -154,3 +155,8 @@ if-fine v x y e = ap (λ (u : Verdict). ifFine u x y) e
 
 pub if-refused : {A : Type 0} (v : Verdict) (x y : A) {r : Refusal} → Refused r ≡ v → y ≡ ifFine v x y
 if-refused v x y e = ap (λ (u : Verdict). ifFine u x y) e
+
+-- ---- a function that answers a chain of checks
+
+-- `search chain` answers its returns: the tests that led there say which check is the first to refuse
+pub ruleset chain = (needs, hit, miss, unlike, alike)
