@@ -3,7 +3,7 @@
 use borrow.Author.Needs.{needs}
 use mathlib.Core.Path.{refl}
 use native.Mathlib.Omega.{arith}
-use Rattle.rail.proofs.Checks.{chain, hit, miss}
+use Rattle.rail.proofs.Checks.{hit, miss}
 use Rattle.sheet.specs.Checks.{trainVerdict}
 use Rattle.sheet.proofs.checks.check_train.Statement.{statement}
 use Rattle.sheet.proofs.checks.check_train.Tie as tie
@@ -19,7 +19,7 @@ shared-slice-read-if1 c = search needs
 
 returns : tie.Need-returns
 unfolding trainVerdict
-returns c = rw (← c .before .before .index .ensures) (search chain)
+returns c = rw (← c .before .before .index .ensures) (hit _ _ _ _ (omega arith))
 
 mul-if2 : tie.Need-mul-if2
 mul-if2 c = search needs
@@ -29,7 +29,10 @@ shared-slice-read-if2 c = search needs
 
 returns-2 : tie.Need-returns-2
 unfolding trainVerdict
-returns-2 c = rw (← c .before .before .before .before .index .ensures) (search chain)
+returns-2 c =
+    rw (← c .before .before .before .before .index .ensures)
+    (miss _ _ _ _ _ (omega arith)
+    (hit _ _ _ _ (omega arith)))
 
 mul-if3 : tie.Need-mul-if3
 mul-if3 c = search needs
@@ -39,7 +42,11 @@ shared-slice-read-if3 c = search needs
 
 returns-3 : tie.Need-returns-3
 unfolding trainVerdict
-returns-3 c = rw (← c .before .before .before .before .before .before .index .ensures) (search chain)
+returns-3 c =
+    rw (← c .before .before .before .before .before .before .index .ensures)
+    (miss _ _ _ _ _ (omega arith)
+    (miss _ _ _ _ _ (omega arith)
+    (hit _ _ _ _ (omega arith))))
 
 mul-departure : tie.Need-mul-departure
 mul-departure c = search needs
