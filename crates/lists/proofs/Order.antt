@@ -1,5 +1,6 @@
--- Of two numbers one is less or the other is not more.
+-- Of two numbers one is less or the other is not more; and 0 is not 1.
 -- Assumes nothing.
+use mathlib.Core.Path.{_≡_}
 use Prim.Native.Nat.{ℕ, _≤_, _<_}
 use mathlib.Core.Logic.{_⊎_, inl, inr}
 use native.Mathlib.Decide.{decLt}
@@ -7,3 +8,7 @@ use native.Mathlib.Omega.{arith}
 
 pub lt-or-ge : (a b : ℕ) → (a < b) ⊎ (b ≤ a)
 lt-or-ge a b = elim (decLt a b) [ yes h ↦ inl h | no h ↦ inr (omega arith) ]
+
+-- 0 is not 1: with this `cc` tells two constructors apart
+pub zero-not-one : {A : Type 0} → _≡_ {A = ℕ} 0 1 → A
+zero-not-one e = let no-way : ⊥ = omega arith in absurd no-way

@@ -67,11 +67,12 @@ padded-past size n f k l =
     (λ (m : size ≤ k). List·getD-eq-default (padded size n f) 0 (rw (padded-length size n f) m))
     (lt-or-ge k size)
 
--- place i, from 1
-pub padded-nth : (size n : ℕ) (f : ℕ → ℕ) (i : ℕ) → 1 ≤ i → i ≤ n → n ≤ size → nth (padded size n f) i ≡ f i
-padded-nth size n f i a b c =
-    let e : i - 1 + 1 ≡ i = omega arith in
-    padded-at size n f (i - 1) (omega arith) (omega arith) ∙ ap f e
+-- place i, from 1, of a list that is this one
+pub padded-nth : (l : List ℕ) (size n : ℕ) (f : ℕ → ℕ) → l ≡ padded size n f → n ≤ size → (i : ℕ) → 1 ≤ i → i ≤ n
+    → nth l i ≡ f i
+padded-nth l size n f e c i a b =
+    let z : i - 1 + 1 ≡ i = omega arith in
+    ap (λ (x : List ℕ). nth x i) e ∙ padded-at size n f (i - 1) (omega arith) (omega arith) ∙ ap f z
 
 -- a list with these entries is this list
 pub padded-ext : (size n : ℕ) (f : ℕ → ℕ) (l : List ℕ) → length l ≡ size

@@ -49,8 +49,7 @@ delay-stays s t i v fine least most small put =
 -- the first n places of a list that read left, counted from 1
 first-nth : (l : List ℕ) (size n : ℕ) (f : ℕ → ℕ) → l ≡ padded size n f → n ≤ size → (i : ℕ) → 1 ≤ i → i ≤ n
     → nth (take n l) i ≡ f i
-first-nth l size n f e k i a b =
-    getD-take n l (i - 1) 0 (omega arith) ∙ ap (λ (x : List ℕ). nth x i) e ∙ padded-nth size n f i a b k
+first-nth l size n f e k i a b = getD-take n l (i - 1) 0 (omega arith) ∙ padded-nth l size n f e k i a b
 
 first-length : (l : List ℕ) (size n : ℕ) (f : ℕ → ℕ) → l ≡ padded size n f → n ≤ size → length (take n l) ≡ n
 first-length l size n f e k = length-take-le n l (rw (e, padded-length size n f) k)

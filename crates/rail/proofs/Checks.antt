@@ -11,7 +11,7 @@ use native.Mathlib.Decide.{ℕ-discrete}
 use native.Mathlib.Omega.{arith}
 use Rattle.lists.specs.Run.{runOf}
 use Rattle.lists.proofs.Choice.{below-yes, below-no, same-yes, same-no}
-use Rattle.lists.proofs.Order.{lt-or-ge}
+use Rattle.lists.proofs.Order.{lt-or-ge, zero-not-one}
 use Rattle.lists.proofs.Run.{run-next, run-none}
 use Rattle.rail.specs.declared.Refusal.{Refusal}
 use Rattle.rail.specs.declared.Verdict.{Verdict}
@@ -21,7 +21,7 @@ use Rattle.rail.specs.Verdict.{refuse_when_below_, refuse_unless_is_, _a
 -- ---- a check and those that follow
 
 pub refused-not-fine : {A : Type 0} {r : Refusal} → Refused r ≡ Fine → A
-refused-not-fine e = let z : _≡_ {A = ℕ} 0 1 = cc in let no-way : ⊥ = omega arith in absurd no-way
+refused-not-fine e = zero-not-one (cc)
 
 pub fine-or-refused : (v : Verdict) → (v ≡ Fine) ⊎ ((r : Refusal) × (v ≡ Refused r))
 fine-or-refused Fine = inl refl

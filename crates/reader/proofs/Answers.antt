@@ -1,8 +1,8 @@
 -- The answer of read from a verdict.
 -- Assumes nothing.
 use mathlib.Core.Path.{_≡_, refl, ap, ap₂, _∙_}
-use native.Mathlib.Omega.{arith}
 use Prim.Native.Nat.{ℕ}
+use Rattle.lists.proofs.Order.{zero-not-one}
 use Rattle.rail.specs.declared.Refusal.{Refusal}
 use Rattle.rail.specs.declared.Verdict.{Verdict}
 use Rattle.rail.specs.declared.Verdict.the-variants.{Fine, Refused}
@@ -19,9 +19,9 @@ reading-accepted v {m′ =
 -- an answer that accepts tells that the verdict is fine
 pub accepted-fine : (v : Verdict) (M P : ℕ) {m T : ℕ} → Accepted m T ≡ readingOf v M P → (v ≡ Fine) × (m ≡ M) × (T ≡ P)
 accepted-fine Fine M P e = (refl, cc, cc)
-accepted-fine (Refused r) M P e = let z : _≡_ {A = ℕ} 0 1 = cc in let no-way : ⊥ = omega arith in absurd no-way
+accepted-fine (Refused r) M P e = zero-not-one (cc)
 
 -- and one that refuses tells for what
 pub refused-verdict : (v : Verdict) (M P : ℕ) {r : Refusal} → ReadRefused r ≡ readingOf v M P → v ≡ Refused r
-refused-verdict Fine M P e = let z : _≡_ {A = ℕ} 0 1 = cc in let no-way : ⊥ = omega arith in absurd no-way
+refused-verdict Fine M P e = zero-not-one (cc)
 refused-verdict (Refused r) M P e = cc

@@ -6,21 +6,16 @@ use mathlib.Core.Logic.{inl, inr, ⊎-elim}
 use Prim.Native.Nat.{ℕ, _+_, _-_, _*_, _≤_, _<_}
 use native.Mathlib.Decide.{ℕ-discrete}
 use native.Mathlib.Omega.{arith}
+use lib.Dec.{lit≤}
 use Rattle.lists.proofs.Choice.{same-yes, same-no}
 use Rattle.lists.proofs.Order.{lt-or-ge}
-use Rattle.bits.specs.Field.{Apart, Put}
+use Rattle.bits.specs.Field.{Put}
 use Rattle.bits.proofs.Puts.{put-apart}
 use Rattle.sheet.specs.Format.{trainsOf, entry, bytesOf}
 use Rattle.sheet.specs.Numbers.{numbersOf}
-use Rattle.sheet.specs.Checks.{earliestOf}
 use Rattle.sheet.specs.Accepted.{InRange, AcceptedSheet, SameNumbers, withDelay, DelayReplaced}
-use Rattle.sheet.proofs.Lengths.{layout}
+use Rattle.sheet.proofs.Lengths.{layout, trains-apart}
 use Rattle.sheet.proofs.Meaning.{in-range-same}
-
--- fields of two columns of the trains, or of two trains, have no bit in common
-train-fields-apart : (a v b w i j : ℕ) → (a + v ≤ b) × (b + w ≤ a + 33) → Apart (a + 33 * i) v (b + 33 * j) w
-train-fields-apart a v b w i j h =
-    ⊎-elim (λ (l : j < i). inr (omega arith)) (λ (l : i ≤ j). inl (omega arith)) (lt-or-ge j i)
 
 module _ (s t : List ℕ) (i v : ℕ) (ok : AcceptedSheet s) (least : 1 ≤ i) (most : i ≤ trainsOf s)
     (replaced : DelayReplaced s i v t) where
@@ -44,14 +39,13 @@ module _ (s t : List ℕ) (i v : ℕ) (ok : AcceptedSheet s) (least : 1 ≤ i) (
       record {
         trains = trains;
         period = put-apart put 7 11 (inl (omega arith));
-        departure = λ j a b. put-apart put _ 12 (train-fields-apart 18 12 40 11 (j - 1) (i - 1) (omega arith));
-        driving = λ j a b. put-apart put _ 10 (train-fields-apart 30 10 40 11 (j - 1) (i - 1) (omega arith));
+        departure = λ j a b. put-apart put _ 12 (trains-apart 18 12 40 11 (j - 1) (i - 1) (lit≤ tt) (lit≤ tt));
+        driving = λ j a b. put-apart put _ 10 (trains-apart 30 10 40 11 (j - 1) (i - 1) (lit≤ tt) (lit≤ tt));
         delay = same-delay;
         passengers = λ f a b. rw trains (put-apart put _ 14 (inr (omega arith)));
       }
 
   in-range-with-delay : v ≤ 1440 → InRange (withDelay (numbersOf s) i v)
-  unfolding earliestOf
   in-range-with-delay l =
       let r = ok .numbers in
       record {

@@ -1,9 +1,16 @@
--- Laws of a sheet's lengths: its fields fill its bits, its bytes hold them with at most seven more, and both are small.
+-- Laws of a sheet's lengths: its fields fill its bits, its bytes hold them with at most seven more, both are small,
+-- each field lies within the sheet, and two columns have no bit in common.
 -- Assumes nothing.
 use mathlib.Core.Path.{_≡_, refl}
-use Prim.Native.Nat.{ℕ, zero, suc, _+_, _*_, _%_, _≤_}
+use mathlib.Core.List.{List}
+use mathlib.Core.Logic.{inl, inr, ⊎-elim}
+use Prim.Native.Nat.{ℕ, zero, suc, _+_, _*_, _%_, _≤_, _<_}
 use native.Mathlib.Nat.{mul-le-mul, mul-add, suc-mul, mul-suc, mul-one}
 use native.Mathlib.Omega.{arith}
+use lib.Dec.{lit≤}
+use lib.ListN.{length}
+use Rattle.lists.proofs.Order.{lt-or-ge}
+use Rattle.bits.specs.Field.{Apart, Within}
 use Rattle.sheet.specs.Format.{bitsOf, bytesOf, pairsOf}
 
 pub square : (m : ℕ) → m ≤ 64 → m * m ≤ 4096
@@ -38,3 +45,20 @@ bytes-bits m = omega arith
 
 pub bytes-le : (m : ℕ) → m ≤ 64 → bytesOf m ≤ 3907
 bytes-le m h = let b = bytes-bits m in omega (arith, bits-le m h)
+
+-- ---- the fields lie within the sheet, and those of two columns have no bit in common
+
+-- w bits of a train, those of train 1 standing from bit a on
+pub train-within : (s : List ℕ) (m a w k : ℕ) → 18 + 33 * m ≤ 8 * length s → m ≤ 64 → a + w ≤ 51 → w ≤ 16 → k < m
+    → Within s (a + 33 * k) w
+train-within s m a w k room most end narrow l = record { inside = omega arith; narrow = narrow; near = omega arith }
+
+pub passengers-within : (s : List ℕ) (m k : ℕ) → bitsOf m ≤ 8 * length s → m ≤ 64 → k < pairsOf m
+    → Within s (18 + 33 * m + 14 * k) 14
+passengers-within s m k room most l =
+    record { inside = omega (arith, layout m); narrow = lit≤ tt; near = omega (arith, pairs-le m most) }
+
+-- fields of trains i + 1 and j + 1 in two columns
+pub trains-apart : (a v b w i j : ℕ) → a + v ≤ b → b + w ≤ a + 33 → Apart (a + 33 * i) v (b + 33 * j) w
+trains-apart a v b w i j h k =
+    ⊎-elim (λ (l : j < i). inr (omega arith)) (λ (l : i ≤ j). inl (omega arith)) (lt-or-ge j i)

@@ -1,14 +1,14 @@
--- Laws of a column that is put place by place, and of columns that have no bit in common.
+-- Laws of a column that is put place by place.
 -- Assumes nothing.
 use mathlib.Core.Path.{_≡_, refl, subst, _∙_}
 use mathlib.Core.List.{List}
-use mathlib.Core.Logic.{inl, inr, ⊎-elim}
+use mathlib.Core.Logic.{inl, ⊎-elim}
 use Prim.Native.Nat.{ℕ, _+_, _*_, _≤_, _<_}
 use native.Mathlib.Nat.{not-suc-le-zero, mul-le-mul-left, mul-suc}
 use native.Mathlib.Omega.{arith}
 use lib.ListN.{getD}
 use Rattle.lists.proofs.Order.{lt-or-ge}
-use Rattle.bits.specs.Field.{Apart, Put}
+use Rattle.bits.specs.Field.{Put}
 use Rattle.bits.proofs.Puts.{put-apart}
 use Rattle.sheet.specs.declared.format.Column.{Column}
 use Rattle.sheet.specs.Format.{entry}
@@ -37,8 +37,3 @@ column-next {s} {t} {u} {c} {n} {l} g spaced h =
           (lt-or-ge k n);
       others = λ a w o. put-apart h a w (o n (omega arith)) ∙ g .others a w (λ k b. o k (omega arith));
     }
-
--- two columns of the trains, of which the first stands `a` bits from the sheet's start and the other b
-pub trains-apart : (a v b w i j : ℕ) → a + v ≤ b → b + w ≤ a + 33 → Apart (a + 33 * i) v (b + 33 * j) w
-trains-apart a v b w i j h k =
-    ⊎-elim (λ (l : j < i). inr (omega arith)) (λ (l : i ≤ j). inl (omega arith)) (lt-or-ge j i)

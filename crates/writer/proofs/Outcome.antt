@@ -4,9 +4,9 @@ use mathlib.Core.Path.{_≡_, refl, sym, ap, ap₂, _∙_}
 use mathlib.Core.List.{List, _++_}
 use mathlib.Core.Logic.{⊎-elim}
 use Prim.Native.Nat.{ℕ}
-use native.Mathlib.Omega.{arith}
 use lib.ListN.{length, drop, take-append-drop}
 use lib.Seq.{take-at, drop-at}
+use Rattle.lists.proofs.Order.{zero-not-one}
 use Rattle.rail.specs.declared.Refusal.{Refusal}
 use Rattle.rail.specs.declared.Verdict.{Verdict}
 use Rattle.rail.specs.declared.Verdict.the-variants.{Fine, Refused}
@@ -22,7 +22,7 @@ use Rattle.writer.specs.Write.{writingOf, Given, numbersGiven, writeVerd
 -- an answer that accepts tells that the verdict is fine
 pub written-fine : (v : Verdict) (k : ℕ) {n : ℕ} → Accepted n ≡ writingOf v k → (v ≡ Fine) × (n ≡ k)
 written-fine Fine k e = (refl, cc)
-written-fine (Refused r) k e = let z : _≡_ {A = ℕ} 0 1 = cc in let no-way : ⊥ = omega arith in absurd no-way
+written-fine (Refused r) k e = zero-not-one (cc)
 
 module _ (G : Given) (before : List ℕ) where
   -- a refusal changes nothing

@@ -13,10 +13,9 @@ use Rattle.bits.proofs.Puts.{put-apart}
 use Rattle.sheet.specs.Format.{trainsOf, departureColumn, drivingColumn, delayColumn, passengerColumn, entry, bytesOf}
 use Rattle.sheet.specs.Numbers.{numbersOf}
 use Rattle.sheet.specs.Accepted.{SameNumbers, SheetOf}
-use Rattle.sheet.proofs.Lengths.{layout, bytes-bits, pairs-le}
+use Rattle.sheet.proofs.Lengths.{layout, bytes-bits, train-within, passengers-within, trains-apart}
 use Rattle.writer.specs.Write.{Given, numbersGiven}
 use Rattle.writer.specs.Steps.{PutRoom, ColumnPut, HeadRoom, HeadPut, TimesRoom, TimesPut, FillingPut, Writable}
-use Rattle.writer.proofs.Columns.{trains-apart}
 
 -- ---- what the steps need
 
@@ -31,7 +30,7 @@ module _ (s t : List ℕ) (m : ℕ) (d r y : List ℕ) (h : TimesRoom s m d r y)
       record {
         listed = long;
         spaced = omega arith;
-        within = λ k c. record { inside = omega arith; narrow = b .2; near = omega arith };
+        within = λ k c. train-within t m a w k (omega arith) most (b .1) (b .2) c;
         small = λ k c. let e : k + 1 - 1 ≡ k = omega arith in rw e at (small (k + 1) (omega arith) (omega arith));
       }
 
@@ -79,8 +78,7 @@ module _ (G : Given) (s t : List ℕ) (h : Writable G s) (same : length t ≡ le
       record {
         listed = omega arith;
         spaced = lit≤ tt;
-        within = λ k c.
-            record { inside = omega (arith, layout m); narrow = lit≤ tt; near = omega (arith, pairs-le m most) };
+        within = λ k c. passengers-within t m k (omega arith) most (omega arith);
         small = λ k c.
             let e : k + 1 - 1 ≡ k = omega arith in
             let in-range = h .range .passengers (k + 1) (omega arith) (omega arith) in
