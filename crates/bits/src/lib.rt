@@ -1,6 +1,5 @@
-// A field: the number held by `width` bits from bit `at` of a list of bytes, most significant bit
-// first.
-// Read and put, proved once over the width.
+// A field: the number held by `width` bits from bit `at` of a list of bytes, most significant
+// bit first. Read and put, proved once over the width.
 ghost use mathlib.Core.Path.{_≡_};
 ghost use Prim.Native.Nat.{_*_, _^_, _<_};
 ghost use lib.ListN.{length};

@@ -9,17 +9,24 @@ mod writes;
 
 use crate::source::byte;
 
+// The letter a record begins with.
+const NAME: u32 = 78;
+
+const READ: u32 = 82;
+
+const WRITE: u32 = 87;
+
 // One record of a kind; false where there is none.
 fn record(from: i32, kind: u32) -> bool {
-    if kind == 78 {
+    if kind == NAME {
         source::name(from);
         return true;
     }
-    if kind == 82 {
+    if kind == READ {
         reads::record(from);
         return true;
     }
-    if kind == 87 {
+    if kind == WRITE {
         writes::record(from);
         return true;
     }

@@ -25,7 +25,7 @@ fn left(departures: &[u32], driving: &[u32], delays: &[u32], passengers: &[u32])
     say::end();
 }
 
-// The answer of write, whether it wrote the sheet, and whether the rest of the buffer is as it was.
+// Whether write gave the sheet back, and whether the rest of the buffer is as it was.
 fn compare(sheet: &[u8], length: usize, buffer: &[u8]) {
     say::next_bool(check::same(parts::bytes(buffer, length), sheet));
     say::next_bool(sums::every(parts::bytes_behind(buffer, length), 165));

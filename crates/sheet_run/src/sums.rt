@@ -1,6 +1,5 @@
-// What a list holds, as one number: each place times what stands there, places counted from 1. From
-// the last place down, the
-// sum of what stands behind is added once for each place.
+// What a list holds, as one number: each place times what stands there, places counted from 1.
+// From the last place down, the sum of what stands behind is added once for each place.
 ghost use Prim.Native.Nat.{_<_};
 
 // The sum so far, and the sum of the places passed.
