@@ -1,0 +1,81 @@
+-- What comes of a policy. Document 01, "Following a policy", as far as the total.
+--   Policy                keep or go, for each train; train 1 has no decision and that of its policy is never used
+--   arrival R p i         how late train i arrives under the policy p
+--   excess R p s          what is left of the arrival delay of train s - 1 once the slack at station s is used up
+--   departure R p i       how late train i departs
+--   missed R p s          is the transfer at station s missed
+--   Day                   the arrival delays and the missed transfers of a day, under a policy or otherwise
+--   dropped D i j         is a transfer at any station strictly between i and j missed
+--   counts L D i j        the minutes that each passenger of the pair (i, j) counts
+--   pairsTotal L D k l    the total of the pairs that board at station k or later and leave at a station after l
+--   total L p             the total of all pairs
+-- Assumes nothing.
+use Prim.Native.Nat.{ℕ, zero, suc, _+_, _-_, _*_}
+use mathlib.Core.Bool.{Bool, true, false}
+use Rattle.lists.specs.Choice.{if_then_else_}
+use Rattle.lists.specs.Run.{runOf}
+use Rattle.line.specs.Sum.{sum_from_to_}
+use Rattle.line.specs.Line.{Running, Line}
+
+pub data Decision : Type 0 where
+  Keep : Decision
+  Go : Decision
+
+abbrev pub Policy : Type 0
+Policy = ℕ → Decision
+
+-- the first under keep, the second under go
+abbrev pub under : {A : Type 0} → Decision → A → A → A
+under Keep x y = x
+under Go x y = y
+
+-- Under keep, train i departs late by exactly the excess; under go, with delay 0. No train comes before train 1: it
+-- finds no excess and departs with delay 0 by this rule too.
+unfoldable pub arrival : Running → Policy → ℕ → ℕ
+arrival R p zero = 0
+arrival R p (suc i) = R .arrive (suc i) (under (p (suc i)) (arrival R p i - R .slack (suc i)) 0)
+
+-- The arrival delay of train s - 1 less the slack, or 0 if that is negative.
+unfoldable pub excess : Running → Policy → ℕ → ℕ
+excess R p s = arrival R p (s - 1) - R .slack s
+
+unfoldable pub departure : Running → Policy → ℕ → ℕ
+departure R p i = under (p i) (excess R p i) 0
+
+-- Under keep the transfer is maintained. Under go it is maintained when the excess is 0, and missed otherwise.
+abbrev pub misses : Decision → ℕ → Bool
+misses Keep e = false
+misses Go zero = false
+misses Go (suc e) = true
+
+unfoldable pub missed : Running → Policy → ℕ → Bool
+missed R p s = misses (p s) (excess R p s)
+
+pub record Day : Type 0 where
+  pub arrival : ℕ → ℕ
+  pub missed : ℕ → Bool
+
+abbrev pub dayOf : Running → Policy → Day
+dayOf R p = record { arrival = arrival R p; missed = missed R p }
+
+-- The stations strictly between i and j asked in their order: each knows what those after it answer.
+unfoldable pub between : {A : Type 0} → ℕ → ℕ → (ℕ → A → A) → A → A
+between i j ask none = runOf ask none (λ s. s) (i + 1) (j - 1 - i)
+
+-- A pair (i, j) is dropped when a transfer at any station strictly between i and j is missed.
+unfoldable pub dropped : Day → ℕ → ℕ → Bool
+dropped D i j = between i j (λ s later. if D .missed s then true else later) false
+
+-- Each of its passengers then counts the period of the first station where it is missed. Otherwise each counts the
+-- arrival delay of train j - 1.
+unfoldable pub counts : Line → Day → ℕ → ℕ → ℕ
+counts L D i j = between i j (λ s later. if D .missed s then L .period s else later) (D .arrival (j - 1))
+
+-- t is the train that they leave, at station t + 1
+unfoldable pub pairsTotal : Line → Day → ℕ → ℕ → ℕ
+pairsTotal L D k l =
+    sum (λ t. sum (λ i. L .passengers i (t + 1) * counts L D i (t + 1)) from k to t) from l to (L .trains)
+
+-- The total is the sum over all pairs.
+unfoldable pub total : Line → Policy → ℕ
+total L p = pairsTotal L (dayOf (L .running) p) 1 1
