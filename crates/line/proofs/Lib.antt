@@ -1,1 +1,4 @@
+pub mod Sums
+pub mod Following
+pub mod Passengers
 pub mod Cases

@@ -58,18 +58,18 @@ pub record Day : Type 0 where
 abbrev pub dayOf : Running → Policy → Day
 dayOf R p = record { arrival = arrival R p; missed = missed R p }
 
--- The stations strictly between i and j asked in their order: each knows what those after it answer.
-unfoldable pub between : {A : Type 0} → ℕ → ℕ → (ℕ → A → A) → A → A
-between i j ask none = runOf ask none (λ s. s) (i + 1) (j - 1 - i)
+-- The stations strictly between i and j in their order: f of the first that is missed, and `none` where none is.
+unfoldable pub atFirstMissed : {A : Type 0} → Day → ℕ → ℕ → (ℕ → A) → A → A
+atFirstMissed D i j f none = runOf (λ s later. if D .missed s then f s else later) none (λ s. s) (i + 1) (j - 1 - i)
 
 -- A pair (i, j) is dropped when a transfer at any station strictly between i and j is missed.
 unfoldable pub dropped : Day → ℕ → ℕ → Bool
-dropped D i j = between i j (λ s later. if D .missed s then true else later) false
+dropped D i j = atFirstMissed D i j (λ s. true) false
 
--- Each of its passengers then counts the period of the first station where it is missed. Otherwise each counts the
--- arrival delay of train j - 1.
+-- Each of its passengers then counts the period of the first such station. Otherwise each counts the arrival delay of
+-- train j - 1.
 unfoldable pub counts : Line → Day → ℕ → ℕ → ℕ
-counts L D i j = between i j (λ s later. if D .missed s then L .period s else later) (D .arrival (j - 1))
+counts L D i j = atFirstMissed D i j (L .period) (D .arrival (j - 1))
 
 -- t is the train that they leave, at station t + 1
 unfoldable pub pairsTotal : Line → Day → ℕ → ℕ → ℕ

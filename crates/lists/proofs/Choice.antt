@@ -1,9 +1,20 @@
--- What a test on numbers chooses.
+-- What a test chooses.
 -- Assumes nothing.
 use mathlib.Core.Path.{_≡_, refl}
 use Prim.Native.Nat.{ℕ, _≤_, _<_}
 use borrow.Author.Tests.{lt-ltb, le-ltb, eq-eqb, ne-eqb}
-use Rattle.lists.specs.Choice.{ifBelow, ifSame}
+use mathlib.Core.Bool.{Bool, true, false}
+use Rattle.lists.specs.Choice.{if_then_else_, ifBelow, ifSame}
+
+module _ {A : Type 0} where
+  pub if-yes : {b : Bool} (x y : A) → b ≡ true → (if b then x else y) ≡ x
+  if-yes x y h = rw h
+
+  pub if-no : {b : Bool} (x y : A) → b ≡ false → (if b then x else y) ≡ y
+  if-no x y h = rw h
+
+  pub if-same : {b c : Bool} {x y z w : A} → b ≡ c → x ≡ z → y ≡ w → (if b then x else y) ≡ (if c then z else w)
+  if-same h e f = rw (h, e, f)
 
 module _ {A : Type 0} {a b : ℕ} (x y : A) where
   pub below-yes : a < b → ifBelow a b x y ≡ x

@@ -1,4 +1,5 @@
 pub mod Order
+pub mod Induction
 pub mod Choice
 pub mod Run
 pub mod Fill
