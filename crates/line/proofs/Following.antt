@@ -7,9 +7,10 @@ use Prim.Native.Nat.{ℕ, zero, suc, _+_, _-_, _≤_, _<_}
 use native.Mathlib.Nat.{zero-sub, eq-or-lt-of-le}
 use native.Mathlib.Omega.{arith}
 use Rattle.lists.proofs.Induction.{up}
-use Rattle.line.specs.Line.{Running}
-use Rattle.line.specs.Policy.{Decision, Keep, Go, Policy, under, misses, arrival, excess, departure, missed, Day, dayOf}
-use Rattle.line.specs.Alike.{RunAlike}
+use Rattle.line.specs.Line.{Running, Line}
+use Rattle.line.specs.Policy.{Decision, Keep, Go, Policy, under, misses, arrival, excess, departure, missed, dayOf, total}
+use Rattle.line.specs.Alike.{RunAlike, LinesAlike}
+use Rattle.line.proofs.Passengers.{DaysAlike, pairs-alike}
 
 module _ (R : Running) (p : Policy) where
   -- Train 1 departs with delay 0: whatever the slack and the policy.
@@ -84,10 +85,16 @@ module _ (R : Running) (p : Policy) (s : ℕ) where
       either Go zero h = absurd (true≢false (sym h))
       either Go (suc e) h = omega arith
 
--- ---- two days alike from train k on
+-- ---- two days alike
 
--- two lines and two policies; train k departs alike, and so does each later train that finds the same excess
-module _ (k m : ℕ) (R S : Running) (p q : Policy) (least : 1 ≤ k) (run : RunAlike k m R S) where
+-- Two lines alike from train k on and two policies under which it departs alike: as long as each later train that finds
+-- the same excess departs alike, so does the next one, and all of them arrive alike.
+module _ (k m : ℕ) (R S : Running) (p q : Policy) (pos : 1 ≤ k) (run : RunAlike k m R S)
+    (begin : departure R p k ≡ departure S q k) where
+  -- up to train n
+  abbrev DepartsAlike : ℕ → Type 0
+  DepartsAlike n = (s : ℕ) → k < s → s ≤ n → excess R p s ≡ excess S q s → departure R p s ≡ departure S q s
+
   arrival-of-departure : (i : ℕ) → k ≤ i → i ≤ m → departure R p i ≡ departure S q i → arrival R p i ≡ arrival S q i
   arrival-of-departure i a b e =
       arrival-departed R p i (omega arith) ∙ run .arrive i _ a b ∙ ap (S .arrive i) e
@@ -99,18 +106,53 @@ module _ (k m : ℕ) (R S : Running) (p q : Policy) (least : 1 ≤ k) (run : Run
       ∙ ap₂ (λ (x y : ℕ). x - y) (arrival-of-departure i a (omega arith) e) (run .slack (i + 1) (omega arith) (omega arith))
       ∙ sym (excess-next S q i)
 
-  module _ (begin : departure R p k ≡ departure S q k)
-      (step : (s : ℕ) → k < s → s ≤ m → excess R p s ≡ excess S q s → departure R p s ≡ departure S q s) where
-    pub departures-alike : (i : ℕ) → k ≤ i → i ≤ m → departure R p i ≡ departure S q i
-    departures-alike i a b =
-        up (λ (j : ℕ). departure R p j ≡ departure S q j) k i a begin
-        (λ j c d e. step (j + 1) (omega arith) (omega arith) (excess-of-departure j c (omega arith) e))
+  pub departures-alike : (n : ℕ) → k ≤ n → n ≤ m → DepartsAlike n → departure R p n ≡ departure S q n
+  departures-alike n a b step =
+      up (λ (i : ℕ). departure R p i ≡ departure S q i) k n a begin
+      (λ i c d e. step (i + 1) (omega arith) (omega arith) (excess-of-departure i c (omega arith) e))
 
-    pub arrivals-alike : (i : ℕ) → k ≤ i → i ≤ m → arrival R p i ≡ arrival S q i
-    arrivals-alike i a b = arrival-of-departure i a b (departures-alike i a b)
+  pub arrivals-alike : (n : ℕ) → k ≤ n → n ≤ m → DepartsAlike n → arrival R p n ≡ arrival S q n
+  arrivals-alike n a b step = arrival-of-departure n a b (departures-alike n a b step)
 
-    pub excesses-alike : (s : ℕ) → k < s → s ≤ m → excess R p s ≡ excess S q s
-    excesses-alike s a b =
-        let e : s - 1 + 1 ≡ s = omega arith in
-        subst (λ (j : ℕ). excess R p j ≡ excess S q j) e
-        (excess-of-departure (s - 1) (omega arith) (omega arith) (departures-alike (s - 1) (omega arith) (omega arith)))
+  pub excesses-alike : (n s : ℕ) → k ≤ n → n < m → n + 1 ≡ s → DepartsAlike n → excess R p s ≡ excess S q s
+  excesses-alike n s a b e step =
+      subst (λ (j : ℕ). excess R p j ≡ excess S q j) e (excess-of-departure n a b (departures-alike n a (omega arith) step))
+
+  -- policies alike after train k
+  module _ (same : (s : ℕ) → k < s → s ≤ m → p s ≡ q s) where
+    departs-same : (n : ℕ) → n ≤ m → DepartsAlike n
+    unfolding departure
+    departs-same n b s c d e = rw (same s c (omega arith), e)
+
+    pub days-alike : DaysAlike k m (dayOf R p) (dayOf S q)
+    unfolding missed
+    days-alike = record {
+      arrival = λ i a b. arrivals-alike i a b (departs-same i b);
+      missed = λ s a b.
+          ap₂ misses (same s a b) (excesses-alike (s - 1) s (omega arith) (omega arith) (omega arith) (departs-same (s - 1) (omega arith)));
+    }
+
+pub run-alike-refl : (k m : ℕ) (R : Running) → RunAlike k m R R
+run-alike-refl k m R = record { slack = λ s a b. refl; arrive = λ i late a b. refl }
+
+pub lines-alike-refl : (k : ℕ) (L : Line) → LinesAlike k L L
+lines-alike-refl k L =
+    record {
+      trains = refl;
+      running = run-alike-refl k (L .trains) (L .running);
+      period = λ s a b. refl;
+      passengers = λ i j a b c. refl;
+    }
+
+-- Arrivals and the total read the trains in use alone: nothing of a line after its last train, no slack or period at
+-- station 1, and a policy at trains 2 to m.
+module _ (L M : Line) (p q : Policy) (lines : LinesAlike 1 L M) (same : (s : ℕ) → 2 ≤ s → s ≤ L .trains → p s ≡ q s) where
+  pub same-days : DaysAlike 1 (L .trains) (dayOf (L .running) p) (dayOf (M .running) q)
+  same-days =
+      days-alike 1 (L .trains) (L .running) (M .running) p q (omega arith) (lines .running)
+      (first-on-time (L .running) p ∙ sym (first-on-time (M .running) q))
+      (λ s a b. same s (omega arith) b)
+
+  pub same-total : total L p ≡ total M q
+  unfolding total
+  same-total = pairs-alike 1 L M (dayOf (L .running) p) (dayOf (M .running) q) lines same-days 1 (omega arith)

@@ -1,4 +1,5 @@
 pub mod Sums
-pub mod Following
 pub mod Passengers
+pub mod Following
+pub mod Runs
 pub mod Cases

@@ -4,7 +4,12 @@ use mathlib.Core.Path.{_≡_, refl}
 use Prim.Native.Nat.{ℕ, _≤_, _<_}
 use borrow.Author.Tests.{lt-ltb, le-ltb, eq-eqb, ne-eqb}
 use mathlib.Core.Bool.{Bool, true, false}
+use mathlib.Core.Logic.{_⊎_, inl, inr}
 use Rattle.lists.specs.Choice.{if_then_else_, ifBelow, ifSame}
+
+pub true-or-false : (b : Bool) → (b ≡ true) ⊎ (b ≡ false)
+true-or-false true = inl refl
+true-or-false false = inr refl
 
 module _ {A : Type 0} where
   pub if-yes : {b : Bool} (x y : A) → b ≡ true → (if b then x else y) ≡ x
