@@ -85,6 +85,14 @@ module _ (R : Running) (p : Policy) (s : ℕ) where
       either Go zero h = absurd (true≢false (sym h))
       either Go (suc e) h = omega arith
 
+  pub go-misses : p s ≡ Go → 0 < excess R p s → missed R p s ≡ true
+  unfolding missed
+  go-misses e = rw e (late (excess R p s))
+    where
+      late : (e : ℕ) → 0 < e → misses Go e ≡ true
+      late zero l = absurd (omega arith)
+      late (suc e) l = refl
+
 -- ---- two days alike
 
 -- Two lines alike from train k on and two policies under which it departs alike: as long as each later train that finds

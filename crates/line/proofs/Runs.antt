@@ -34,6 +34,12 @@ runCost L D k s =
     (if D .missed s then L .period s * aboard L (startOf D k s) s else 0)
     + leaving L (startOf D k (s + 1)) s * D .arrival s
 
+clear-next : (D : Day) (i s : ℕ) → Clear D i s → D .missed s ≡ false → Clear D i (s + 1)
+clear-next D i s clear m r a b = elim (eq-or-lt-of-le b) [
+  | inl e ↦ let same : r ≡ s = omega arith in ap (D .missed) same ∙ m
+  | inr c ↦ clear r a (omega arith)
+]
+
 -- ---- where a run begins
 
 module _ (D : Day) where
@@ -67,6 +73,13 @@ module _ (D : Day) (k : ℕ) where
   unfolding startOf
   start-kept s m = let e : lastMissed D (s + 1) ≡ lastMissed D s = last-next D s ∙ rw m refl in omega arith
 
+  -- train s is on a run that begins with it or before
+  pub start-before : (s : ℕ) → k ≤ s → startOf D k (s + 1) ≤ s
+  start-before s l = elim (true-or-false (D .missed s)) [
+    | inl m ↦ omega (arith, start-missed s l m)
+    | inr m ↦ omega (arith, start-kept s m, start-le s l)
+  ]
+
   -- nothing is missed on the run that reaches s
   pub start-clear : (s : ℕ) → k ≤ s → Clear D (startOf D k s) s
   start-clear s l =
@@ -74,10 +87,7 @@ module _ (D : Day) (k : ℕ) where
       (λ r a b. absurd (omega (arith, start-first)))
       (λ j a b clear r c d. elim (true-or-false (D .missed j)) [
         | inl m ↦ absurd (omega (arith, start-missed j a m))
-        | inr m ↦ elim (eq-or-lt-of-le d) [
-          | inl e ↦ let same : r ≡ j = omega arith in ap (D .missed) same ∙ m
-          | inr e ↦ clear r (omega (arith, start-kept j m)) (omega arith)
-        ]
+        | inr m ↦ clear-next D (startOf D k j) j clear m r (omega (arith, start-kept j m)) d
       ])
 
   -- where nothing is missed after k, the run from k goes on
@@ -91,6 +101,20 @@ module _ (D : Day) (k : ℕ) where
           | inr c ↦ absurd (true≢false (sym m ∙ clear j c b))
         ]
       ])
+
+  -- the station after k is reached by train k
+  pub start-second : startOf D k (k + 1) ≡ k
+  start-second = start-through (k + 1) (omega arith) (λ s a b. absurd (omega arith))
+
+-- days alike after k have the same runs
+pub start-alike : (D E : Day) (k s : ℕ) → k < s → ((r : ℕ) → k < r → r < s → D .missed r ≡ E .missed r)
+    → startOf D k s ≡ startOf E k s
+start-alike D E k s l same =
+    up (λ (j : ℕ). startOf D k j ≡ startOf E k j) (k + 1) s (omega arith) (start-second D k ∙ sym (start-second E k))
+    (λ j a b e. elim (true-or-false (D .missed j)) [
+      | inl m ↦ start-missed D k j (omega arith) m ∙ sym (start-missed E k j (omega arith) (sym (same j (omega arith) b) ∙ m))
+      | inr m ↦ start-kept D k j m ∙ e ∙ sym (start-kept E k j (sym (same j (omega arith) b) ∙ m))
+    ])
 
 -- ---- the total
 
@@ -152,13 +176,7 @@ module _ (L : Line) (D : Day) where
               rw (start-missed D k s a m, if-yes (L .period s * aboard L (startOf D k s) s) 0 m) (omega arith)
           | inr m ↦
               rw (start-kept D k s m, if-no (L .period s * aboard L (startOf D k s) s) 0 m)
-              (omega (arith, pairs-kept (startOf D k s) s (begin .1) b (clear-next clear m)))
-        ]
-      where
-        clear-next : Clear D (startOf D k s) s → D .missed s ≡ false → Clear D (startOf D k s) (s + 1)
-        clear-next clear m r u v = elim (eq-or-lt-of-le v) [
-          | inl e ↦ let same : r ≡ s = omega arith in ap (D .missed) same ∙ m
-          | inr e ↦ clear r u (omega arith)
+              (omega (arith, pairs-kept (startOf D k s) s (begin .1) b (clear-next D (startOf D k s) s clear m)))
         ]
 
     -- The total of those who board at k or later and leave after l, nothing being missed between, is their cost run by run.

@@ -35,6 +35,11 @@ pub over-same : (a b : ℕ) (f g : ℕ → ℕ) → ((i : ℕ) → a ≤ i → i
 unfolding over
 over-same a b f g h = run-same _+_ 0 f g a (b - a) (λ i l u. h i l (omega arith))
 
+pub over-zero : (a b : ℕ) (f : ℕ → ℕ) → a ≤ b → ((i : ℕ) → a ≤ i → i < b → f i ≡ 0) → over a b f ≡ 0
+over-zero a b f l h =
+    down (λ (i : ℕ). over i b f ≡ 0) a b l (over-none b b f (le-refl b))
+    (λ i v w e. omega (arith, e, h i v w, over-first i b f w))
+
 pub over-split : (a b c : ℕ) (f : ℕ → ℕ) → a ≤ b → b ≤ c → over a c f ≡ over a b f + over b c f
 over-split a b c f l u =
     down (λ (i : ℕ). over i c f ≡ over i b f + over b c f) a b l
