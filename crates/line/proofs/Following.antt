@@ -126,19 +126,25 @@ module _ (k m : ℕ) (R S : Running) (p q : Policy) (pos : 1 ≤ k) (run : RunAl
   excesses-alike n s a b e step =
       subst (λ (j : ℕ). excess R p j ≡ excess S q j) e (excess-of-departure n a b (departures-alike n a (omega arith) step))
 
-  -- policies alike after train k
-  module _ (same : (s : ℕ) → k < s → s ≤ m → p s ≡ q s) where
-    departs-same : (n : ℕ) → n ≤ m → DepartsAlike n
-    unfolding departure
-    departs-same n b s c d e = rw (same s c (omega arith), e)
+  -- where at the same excess the same is missed too, the days are alike
+  pub days-alike : DepartsAlike m
+      → ((s : ℕ) → k < s → s ≤ m → excess R p s ≡ excess S q s → missed R p s ≡ missed S q s)
+      → DaysAlike k m (dayOf R p) (dayOf S q)
+  days-alike departs misses =
+      record {
+        arrival = λ i a b. arrivals-alike i a b (λ s c d. departs s c (omega arith));
+        missed = λ s a b.
+            misses s a b
+            (excesses-alike (s - 1) s (omega arith) (omega arith) (omega arith) (λ r c d. departs r c (omega arith)));
+      }
 
-    pub days-alike : DaysAlike k m (dayOf R p) (dayOf S q)
-    unfolding missed
-    days-alike = record {
-      arrival = λ i a b. arrivals-alike i a b (departs-same i b);
-      missed = λ s a b.
-          ap₂ misses (same s a b) (excesses-alike (s - 1) s (omega arith) (omega arith) (omega arith) (departs-same (s - 1) (omega arith)));
-    }
+-- under policies alike after train k they are
+pub policies-alike : (k m : ℕ) (R S : Running) (p q : Policy) → 1 ≤ k → RunAlike k m R S
+    → departure R p k ≡ departure S q k → ((s : ℕ) → k < s → s ≤ m → p s ≡ q s)
+    → DaysAlike k m (dayOf R p) (dayOf S q)
+unfolding departure missed
+policies-alike k m R S p q pos run begin same =
+    days-alike k m R S p q pos run begin (λ s a b e. rw (same s a b, e)) (λ s a b e. rw (same s a b, e))
 
 pub run-alike-refl : (k m : ℕ) (R : Running) → RunAlike k m R R
 run-alike-refl k m R = record { slack = λ s a b. refl; arrive = λ i late a b. refl }
@@ -157,7 +163,7 @@ lines-alike-refl k L =
 module _ (L M : Line) (p q : Policy) (lines : LinesAlike 1 L M) (same : (s : ℕ) → 2 ≤ s → s ≤ L .trains → p s ≡ q s) where
   pub same-days : DaysAlike 1 (L .trains) (dayOf (L .running) p) (dayOf (M .running) q)
   same-days =
-      days-alike 1 (L .trains) (L .running) (M .running) p q (omega arith) (lines .running)
+      policies-alike 1 (L .trains) (L .running) (M .running) p q (omega arith) (lines .running)
       (first-on-time (L .running) p ∙ sym (first-on-time (M .running) q))
       (λ s a b. same s (omega arith) b)
 

@@ -102,21 +102,21 @@ module _ (L : Line) (c d : Table) (W : Worked (bookOf L) (L .trains) c d)
     | inr m ↦ rw (m, start-first D k) (cell-start (bookOf L) (L .trains) c d W k pos b b)
   ]
 
+  -- a policy that goes where the cells go misses there
+  pub goes-missed : (s : ℕ) → k ≤ s → choice (bookOf L) d (start s) s ≡ Go → p s ≡ Go → missed R p s ≡ true
+  goes-missed s a go same =
+      let lesser = choice-go (bookOf L) d (start s) s go in
+      elim (eq-or-lt-of-le (start-le D k s a .1)) [
+        | inl e ↦ absurd (omega (arith, lesser .2, late-start R (start s) s (le-of-eq (sym e))))
+        | inr l ↦ go-misses R p s same (rw (late-here s a l) (lesser .2))
+      ]
+
   -- and where the policy does what the cells say
   price-follows : (s : ℕ) → k ≤ s → s ≤ L .trains → p s ≡ choice (bookOf L) d (start s) s → d (start s) s ≡ price s
   unfolding price
   price-follows s a b same = elim (keep-or-go (choice (bookOf L) d (start s) s)) [
-    | inl keep ↦
-        let kept = keep-maintains R p s (same ∙ keep) in
-        rw (kept, cell-worked s a b) (choice-keep _ _ _ _ keep)
-    | inr go ↦
-        let cheaper = choice-go _ _ _ _ go in
-        elim (eq-or-lt-of-le (start-le D k s a .1)) [
-          | inl e ↦ absurd (omega (arith, cheaper .2, late-start R (start s) s (le-of-eq (sym e))))
-          | inr l ↦
-              let gone = go-misses R p s (same ∙ go) (rw (late-here s a l) (cheaper .2)) in
-              rw (gone, cell-worked s a b) (cheaper .0)
-        ]
+    | inl keep ↦ rw (keep-maintains R p s (same ∙ keep), cell-worked s a b) (choice-keep _ _ _ _ keep)
+    | inr go ↦ rw (goes-missed s a go (same ∙ go), cell-worked s a b) (choice-go _ _ _ _ go .0)
   ]
 
   falls : (s : ℕ) → k ≤ s → s ≤ L .trains → d (start s) s ≤ runCost L D k s + d (start (s + 1)) (s + 1)

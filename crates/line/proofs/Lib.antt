@@ -4,4 +4,5 @@ pub mod Following
 pub mod Runs
 pub mod Choices
 pub mod Least
+pub mod Plan
 pub mod Cases
