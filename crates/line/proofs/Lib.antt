@@ -5,4 +5,6 @@ pub mod Runs
 pub mod Choices
 pub mod Least
 pub mod Plan
+pub mod Tables
+pub mod Bounds
 pub mod Cases

@@ -21,5 +21,5 @@ pub record LineInRange (L : Line) : Type 0 where
 pub record InRange (B : Book) : Type 0 where
   pub running : RunInRange (B .trains) (B .running)
   pub period : (s : ℕ) → 1 < s → s ≤ B .trains → B .period s ≤ 1440
-  pub leaving : (k : ℕ) → 1 ≤ k → sum (B .leaving k) from k to (B .trains) ≤ 20800000
+  pub leaving : (k : ℕ) → 1 ≤ k → k ≤ B .trains → sum (B .leaving k) from k to (B .trains) ≤ 20800000
   pub aboard : (k l : ℕ) → 1 ≤ k → k < l → l ≤ B .trains → B .aboard k l ≤ 20800000
