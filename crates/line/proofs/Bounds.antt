@@ -3,18 +3,20 @@
 -- Assumes nothing.
 use mathlib.Core.Path.{_≡_, refl, ap, sym, _∙_}
 use mathlib.Core.Bool.{Bool, true, false}
-use Prim.Native.Nat.{ℕ, zero, suc, _+_, _-_, _*_, _≤_, _<_}
+use mathlib.Core.Logic.{_⊎_, inl, inr}
+use Prim.Native.Nat.{ℕ, _+_, _-_, _*_, _≤_, _<_}
 use native.Mathlib.Nat.{le-refl, le-trans, le-of-eq, mul-le-mul}
 use native.Mathlib.Omega.{arith}
 use Rattle.lists.specs.Choice.{if_then_else_}
 use Rattle.lists.specs.Run.{runOf}
+use Rattle.lists.proofs.Order.{lt-or-ge}
 use Rattle.lists.proofs.Induction.{down, up}
 use Rattle.line.specs.Sum.{sum_from_to_}
 use Rattle.line.specs.Line.{Running, Line}
-use Rattle.line.specs.Policy.{Decision, Keep, Go, Policy, under, arrival, excess, departure, missed, Day, dayOf, counts, pairsTotal, total}
+use Rattle.line.specs.Policy.{Decision, Keep, Go, Policy, under, arrival, departure, missed, Day, dayOf, counts, pairsTotal, total}
 use Rattle.line.specs.Cells.{Table, leaving, aboard, Book, bookOf, runFrom, reach, keepCost, Worked}
 use Rattle.line.specs.Ranges.{RunInRange, LineInRange, InRange}
-use Rattle.line.proofs.Sums.{over, sum-over, sum-below, over-first, over-none, over-split, over-same, over-scale, over-le, falls-within}
+use Rattle.line.proofs.Sums.{over, sum-over, sum-below, over-first, over-none, over-split, over-scale, over-le, falls-within}
 use Rattle.line.proofs.Passengers.{counts-last, counts-next}
 use Rattle.line.proofs.Following.{arrival-departed, excess-next}
 use Rattle.line.proofs.Choices.{worked-le-keep}
@@ -147,19 +149,19 @@ module _ (L : Line) (range : LineInRange L) where
       either false h e = e
 
   -- No total can pass 1,916,928,000,000 passenger-minutes, under any policy.
-  pub total-le : (p : Policy) → 1 ≤ L .trains → total L p ≤ 1916928000000
+  pub total-le : (p : Policy) → total L p ≤ 1916928000000
   unfolding total pairsTotal
-  total-le p some =
+  total-le p =
       le-trans (le-of-eq (sum-over _ 1 (L .trains)))
       (le-trans
       (over-le 1 (L .trains + 1) _ (λ t. leaving L 1 t * 92160) (omega arith) (λ t u v. each t u (omega arith)))
       (omega (arith, over-scale 1 (L .trains + 1) (leaving L 1) 92160 (omega arith), leavers)))
     where
-      D : Day
-      D = dayOf (L .running) p
-
       leavers : over 1 (L .trains + 1) (leaving L 1) ≤ 20800000
-      leavers = le-trans (le-of-eq (sym (sum-over _ 1 (L .trains)))) (range-of-line .leaving 1 (le-refl 1) some)
+      leavers = elim (lt-or-ge 0 (L .trains)) [
+        | inl some ↦ le-trans (le-of-eq (sym (sum-over _ 1 (L .trains)))) (range-of-line .leaving 1 (le-refl 1) some)
+        | inr none ↦ omega (arith, over-none 1 (L .trains + 1) (leaving L 1) (omega arith))
+      ]
 
       each : (t : ℕ) → 1 ≤ t → t ≤ L .trains
           → sum (λ i. L .passengers i (t + 1) * counts L (dayOf (L .running) p) i (t + 1)) from 1 to t ≤ leaving L 1 t * 92160

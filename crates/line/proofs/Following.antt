@@ -2,15 +2,30 @@
 -- Assumes nothing.
 use mathlib.Core.Path.{_≡_, refl, ap, ap₂, sym, subst, _∙_}
 use mathlib.Core.Logic.{_⊎_, inl, inr}
-use mathlib.Core.Bool.{Bool, true, false, true≢false}
+use mathlib.Core.Bool.{true, false, true≢false}
 use Prim.Native.Nat.{ℕ, zero, suc, _+_, _-_, _≤_, _<_}
-use native.Mathlib.Nat.{zero-sub, eq-or-lt-of-le}
+use native.Mathlib.Nat.{zero-sub}
 use native.Mathlib.Omega.{arith}
+use Rattle.lists.proofs.Order.{zero-not-one}
 use Rattle.lists.proofs.Induction.{up}
 use Rattle.line.specs.Line.{Running, Line}
 use Rattle.line.specs.Policy.{Decision, Keep, Go, Policy, under, misses, arrival, excess, departure, missed, dayOf, total}
 use Rattle.line.specs.Alike.{RunAlike, LinesAlike}
 use Rattle.line.proofs.Passengers.{DaysAlike, pairs-alike}
+
+pub keep-or-go : (b : Decision) → (b ≡ Keep) ⊎ (b ≡ Go)
+keep-or-go Keep = inl refl
+keep-or-go Go = inr refl
+
+pub keep-not-go : {A : Type 0} → Keep ≡ Go → A
+keep-not-go e = zero-not-one (ap (λ (b : Decision). under b 0 1) e)
+
+module _ {A : Type 0} {b : Decision} (x y : A) where
+  pub under-keep : b ≡ Keep → under b x y ≡ x
+  under-keep e = rw e
+
+  pub under-go : b ≡ Go → under b x y ≡ y
+  under-go e = rw e
 
 module _ (R : Running) (p : Policy) where
   -- Train 1 departs with delay 0: whatever the slack and the policy.
@@ -37,7 +52,7 @@ module _ (R : Running) (p : Policy) (s : ℕ) where
   -- Under keep the train departs late by exactly the excess, and the transfer is maintained.
   pub keep-departs : p s ≡ Keep → departure R p s ≡ excess R p s
   unfolding departure
-  keep-departs e = rw e
+  keep-departs = under-keep _ _
 
   pub keep-maintains : p s ≡ Keep → missed R p s ≡ false
   unfolding missed
@@ -46,7 +61,7 @@ module _ (R : Running) (p : Policy) (s : ℕ) where
   -- Under go it departs with delay 0.
   pub go-departs : p s ≡ Go → departure R p s ≡ 0
   unfolding departure
-  go-departs e = rw e
+  go-departs = under-go _ _
 
   -- A station with excess 0 maintains its transfer under either decision.
   pub no-excess-maintains : excess R p s ≡ 0 → missed R p s ≡ false

@@ -2,37 +2,22 @@
 -- no more than the station costs, and by just that where the policy does what the cells say. Summed up, no policy has less
 -- than the cell it begins at, and one that does what the cells say has just that.
 -- Assumes nothing.
-use mathlib.Core.Path.{_≡_, ap, sym, subst, _∙_}
+use mathlib.Core.Path.{_≡_, ap, subst, _∙_}
 use mathlib.Core.Logic.{_⊎_, inl, inr}
-use mathlib.Core.Bool.{Bool, true, false, true≢false}
-use Prim.Native.Nat.{ℕ, _+_, _-_, _*_, _≤_, _<_}
+use Prim.Native.Nat.{ℕ, _+_, _≤_, _<_}
 use native.Mathlib.Nat.{le-refl, le-trans, le-of-eq, eq-or-lt-of-le}
 use native.Mathlib.Omega.{arith}
 use Rattle.lists.specs.Choice.{if_then_else_}
-use Rattle.lists.proofs.Choice.{if-yes, if-no, true-or-false}
-use Rattle.lists.proofs.Induction.{up}
-use Rattle.line.specs.Sum.{sum_from_to_}
+use Rattle.lists.proofs.Choice.{true-or-false}
 use Rattle.line.specs.Line.{Running, Line}
-use Rattle.line.specs.Policy.{Decision, Keep, Go, Policy, misses, arrival, excess, departure, missed, Day, dayOf, pairsTotal}
-use Rattle.line.specs.Cells.{Table, Along, leaving, aboard, bookOf, late, reach, keepCost, goCost, worked, Worked, choice}
+use Rattle.line.specs.Policy.{Keep, Policy, departure, missed, Day, dayOf, pairsTotal}
+use Rattle.line.specs.Cells.{Table, Along, aboard, bookOf, keepCost, goCost, worked, Worked, choice}
 use Rattle.line.proofs.Sums.{over, sum-over, sum-below, over-none, over-zero, falls-equal, falls-within, falls-each}
-use Rattle.line.proofs.Following.{go-departs, keep-maintains, missed-goes, missed-late, go-misses}
-use Rattle.line.proofs.Runs.{startOf, runCost, start-le, start-first, start-missed, start-kept, start-before, start-clear, start-through, total-by-runs}
-use Rattle.line.proofs.Choices.{keep-or-go, keep-not-go, worked-le-keep, worked-le-go, choice-keep, choice-go, late-start, along-arrives, along-excess, cell-start}
-
--- a policy rides along its own runs
-module _ (R : Running) (p : Policy) (k : ℕ) (on-time : departure R p k ≡ 0) where
-  pub along-start : (s : ℕ) → k ≤ s → Along R p (startOf (dayOf R p) k s) s
-  along-start s l = record { on-time = departs s l; maintained = start-clear (dayOf R p) k s l }
-    where
-      departs : (s : ℕ) → k ≤ s → departure R p (startOf (dayOf R p) k s) ≡ 0
-      departs s l =
-          up (λ (j : ℕ). departure R p (startOf (dayOf R p) k j) ≡ 0) k s l
-          (rw (start-first (dayOf R p) k) on-time)
-          (λ j a b e. elim (true-or-false (missed R p j)) [
-            | inl m ↦ rw (start-missed (dayOf R p) k j a m) (go-departs R p j (missed-goes R p j m))
-            | inr m ↦ rw (start-kept (dayOf R p) k j m) e
-          ])
+use Rattle.line.proofs.Following.{keep-or-go, keep-maintains, missed-late}
+use Rattle.line.proofs.Runs.{startOf, runCost, start-le, start-first, start-missed, start-kept, start-through, total-by-runs}
+use Rattle.line.proofs.Along.{start-arrives, start-excess}
+use Rattle.line.proofs.Choices.{worked-le-keep, worked-le-go, choice-keep, choice-go, cell-start}
+use Rattle.line.proofs.Decided.{goes-missed}
 
 -- nobody is aboard where a run begins
 aboard-none : (L : Line) (k : ℕ) → 1 ≤ k → k ≤ L .trains → aboard L k k ≡ 0
@@ -56,20 +41,14 @@ module _ (L : Line) (c d : Table) (W : Worked (bookOf L) (L .trains) c d)
   price : ℕ → ℕ
   price s = if missed R p s then goCost (bookOf L) d (start s) s else keepCost (bookOf L) d (start s) s
 
-  arrives : (s : ℕ) → k ≤ s → arrival R p s ≡ reach R (start (s + 1)) s
-  arrives s a =
-      let next = start-le D k (s + 1) (omega arith) in
-      along-arrives R (start (s + 1)) p (s + 1) (omega arith) (along-start R p k on-time (s + 1) (omega arith)) s
-      (start-before D k s a) (omega arith)
-
   cost-price : (s : ℕ) → k ≤ s → s ≤ L .trains → runCost L D k s + d (start (s + 1)) (s + 1) ≡ price s
   unfolding runCost goCost keepCost price
   cost-price s a b = elim (true-or-false (missed R p s)) [
     | inl m ↦
         let begin = cell-start (bookOf L) (L .trains) c d W s (omega arith) b b in
-        let arrive = arrives s a in
+        let arrive = start-arrives R p k pos on-time s a in
         rw (m, arrive, start-missed D k s a m) (omega (arith, begin))
-    | inr m ↦ let arrive = arrives s a in rw (m, arrive, start-kept D k s m) (omega arith)
+    | inr m ↦ let arrive = start-arrives R p k pos on-time s a in rw (m, arrive, start-kept D k s m) (omega arith)
   ]
 
   cell-worked : (s : ℕ) → k ≤ s → s ≤ L .trains → d (start s) s ≡ worked (bookOf L) d (start s) s
@@ -77,19 +56,13 @@ module _ (L : Line) (c d : Table) (W : Worked (bookOf L) (L .trains) c d)
       let begin = start-le D k s a in
       W .anew (start s) s (omega arith) (omega arith) (begin .1) b
 
-  -- the excess is that of the run
-  late-here : (s : ℕ) → k ≤ s → start s < s → excess R p s ≡ late R (start s) s
-  late-here s a l =
-      let begin = start-le D k s a in
-      along-excess R (start s) p s (omega arith) (along-start R p k on-time s a) l
-
   -- the cell is no more than the price
   price-le : (s : ℕ) → k ≤ s → s ≤ L .trains → d (start s) s ≤ price s
   unfolding price
   price-le s a b = elim (true-or-false (missed R p s)) [
     | inl m ↦ elim (eq-or-lt-of-le (start-le D k s a .1)) [
       | inl e ↦ rw (m, e) (unfold goCost in omega arith)
-      | inr l ↦ rw (m, cell-worked s a b) (worked-le-go _ _ _ _ (rw (late-here s a l) at (missed-late R p s m)))
+      | inr l ↦ rw (m, cell-worked s a b) (worked-le-go _ _ _ _ (rw (start-excess R p k pos on-time s a l) at (missed-late R p s m)))
     ]
     | inr m ↦ rw (m, cell-worked s a b) (worked-le-keep _ _ _ _)
   ]
@@ -102,21 +75,12 @@ module _ (L : Line) (c d : Table) (W : Worked (bookOf L) (L .trains) c d)
     | inr m ↦ rw (m, start-first D k) (cell-start (bookOf L) (L .trains) c d W k pos b b)
   ]
 
-  -- a policy that goes where the cells go misses there
-  pub goes-missed : (s : ℕ) → k ≤ s → choice (bookOf L) d (start s) s ≡ Go → p s ≡ Go → missed R p s ≡ true
-  goes-missed s a go same =
-      let lesser = choice-go (bookOf L) d (start s) s go in
-      elim (eq-or-lt-of-le (start-le D k s a .1)) [
-        | inl e ↦ absurd (omega (arith, lesser .2, late-start R (start s) s (le-of-eq (sym e))))
-        | inr l ↦ go-misses R p s same (rw (late-here s a l) (lesser .2))
-      ]
-
   -- and where the policy does what the cells say
   price-follows : (s : ℕ) → k ≤ s → s ≤ L .trains → p s ≡ choice (bookOf L) d (start s) s → d (start s) s ≡ price s
   unfolding price
   price-follows s a b same = elim (keep-or-go (choice (bookOf L) d (start s) s)) [
     | inl keep ↦ rw (keep-maintains R p s (same ∙ keep), cell-worked s a b) (choice-keep _ _ _ _ keep)
-    | inr go ↦ rw (goes-missed s a go (same ∙ go), cell-worked s a b) (choice-go _ _ _ _ go .0)
+    | inr go ↦ rw (goes-missed (bookOf L) d p k pos on-time s a go (same ∙ go), cell-worked s a b) (choice-go _ _ _ _ go .0)
   ]
 
   falls : (s : ℕ) → k ≤ s → s ≤ L .trains → d (start s) s ≤ runCost L D k s + d (start (s + 1)) (s + 1)

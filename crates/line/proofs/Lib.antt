@@ -2,9 +2,12 @@ pub mod Sums
 pub mod Passengers
 pub mod Following
 pub mod Runs
+pub mod Along
 pub mod Choices
+pub mod Decided
 pub mod Least
 pub mod Plan
 pub mod Tables
 pub mod Bounds
+pub mod Base
 pub mod Cases

@@ -2,104 +2,42 @@
 -- Assumes nothing.
 use mathlib.Core.Path.{_≡_, refl, ap, sym, subst, _∙_}
 use mathlib.Core.Logic.{_⊎_, inl, inr}
-use mathlib.Core.Bool.{Bool, true, false}
-use Prim.Native.Nat.{ℕ, zero, suc, _+_, _-_, _≤_, _<_}
-use native.Mathlib.Nat.{le-refl, le-trans, le-of-eq, le-antisymm, eq-or-lt-of-le}
+use Prim.Native.Nat.{ℕ, _+_, _-_, _≤_, _<_}
+use native.Mathlib.Nat.{le-of-eq, le-antisymm, eq-or-lt-of-le}
 use native.Mathlib.Omega.{arith}
-use Rattle.lists.specs.Choice.{ifBelow, ifSame}
-use Rattle.lists.proofs.Choice.{below-yes, below-no, same-yes, same-no}
-use Rattle.lists.proofs.Order.{lt-or-ge, same-or-not}
+use Rattle.lists.specs.Choice.{ifSame}
+use Rattle.lists.proofs.Choice.{same-yes, same-no}
+use Rattle.lists.proofs.Order.{same-or-not}
 use Rattle.lists.proofs.Induction.{up}
 use Rattle.line.specs.Line.{Running, Line}
-use Rattle.line.specs.Policy.{Decision, Keep, Go, Policy, under, excess, departure, missed, Day, dayOf, pairsTotal, total}
+use Rattle.line.specs.Policy.{Decision, Keep, Go, Policy, excess, departure, missed, dayOf, pairsTotal, total}
 use Rattle.line.specs.Plan.{FirstDifference, IsPlan}
-use Rattle.line.specs.Cells.{Table, Along, IsCell, bookOf, late, Worked, choice, begins, follow, decide}
-use Rattle.line.proofs.Following.{first-on-time, keep-departs, keep-maintains, go-departs, no-excess-maintains, maintained-departs, days-alike, policies-alike, run-alike-refl, lines-alike-refl}
+use Rattle.line.specs.Cells.{Table, Along, IsCell, bookOf, Worked, choice, follow, decide}
+use Rattle.line.proofs.Following.{keep-or-go, keep-not-go, first-on-time, keep-departs, keep-maintains, no-excess-maintains, maintained-departs, days-alike, policies-alike, run-alike-refl, lines-alike-refl}
 use Rattle.line.proofs.Passengers.{DaysAlike, pairs-alike}
-use Rattle.line.proofs.Runs.{startOf, start-missed, start-kept, start-second, start-alike}
-use Rattle.line.proofs.Choices.{keep-or-go, keep-not-go, late-start, choice-none}
-use Rattle.line.proofs.Least.{least-of-all, goes-missed, follows-attains, keeps-as-cells}
-
--- ---- a rule that does what the cells say
-
-begins-next : (rule : ℕ → ℕ → Decision) (s : ℕ) → begins rule (s + 1) ≡ under (rule (begins rule s) s) (begins rule s) s
-unfolding begins
-begins-next rule s = let e : s + 1 ≡ suc s = omega arith in ap (begins rule) e
-
--- The run from k is kept up to station l; from there on the rule is the cells' choice.
-module _ (L : Line) (c d : Table) (W : Worked (bookOf L) (L .trains) c d)
-    (rule : ℕ → ℕ → Decision) (k l : ℕ) (pos : 1 ≤ k) (a : k ≤ l) (b : l ≤ L .trains + 1)
-    (on-time : departure (L .running) (follow rule) k ≡ 0)
-    (second : begins rule (k + 1) ≡ k)
-    (before : (j s : ℕ) → k < s → s < l → rule j s ≡ Keep)
-    (after : (j s : ℕ) → k < s → l ≤ s → rule j s ≡ choice (bookOf L) d j s) where
-  abbrev R : Running
-  R = L .running
-
-  abbrev p : Policy
-  p = follow rule
-
-  abbrev D : Day
-  D = dayOf (L .running) (follow rule)
-
-  on-the-run : Along R p k l
-  unfolding follow
-  on-the-run = record { on-time = on-time; maintained = λ s u v. keep-maintains R p s (before (begins rule s) s u v) }
-
-  -- the rule's runs are those of its policy
-  begins-start : (s : ℕ) → k < s → begins rule s ≡ startOf D k s
-  unfolding follow
-  begins-start s u =
-      up (λ (j : ℕ). begins rule j ≡ startOf D k j) (k + 1) s (omega arith) (second ∙ sym (start-second D k))
-      (λ j v w e. begins-next rule j ∙ (elim (keep-or-go (rule (begins rule j) j)) [
-        | inl keep ↦ ap (λ (x : Decision). under x (begins rule j) j) keep ∙ e
-            ∙ sym (start-kept D k j (keep-maintains R p j keep))
-        | inr go ↦ elim (lt-or-ge j l) [
-          | inl x ↦ keep-not-go (sym (before (begins rule j) j (omega arith) x) ∙ go)
-          | inr x ↦
-              let chosen : choice (bookOf L) d (startOf D k j) j ≡ Go
-              = ap (λ (i : ℕ). choice (bookOf L) d i j) (sym e) ∙ sym (after (begins rule j) j (omega arith) x) ∙ go in
-              ap (λ (y : Decision). under y (begins rule j) j) go
-              ∙ sym (start-missed D k j (omega arith) (goes-missed L c d W p k pos on-time j (omega arith) chosen go))
-        ]
-      ]))
-
-  does : (s : ℕ) → k < s → l ≤ s → p s ≡ choice (bookOf L) d (startOf D k s) s
-  unfolding follow
-  does s u v = after (begins rule s) s u v ∙ ap (λ (i : ℕ). choice (bookOf L) d i s) (begins-start s u)
-
-  rule-attains : pairsTotal L D k l ≡ d k l
-  rule-attains = follows-attains L c d W p k pos on-time l a b on-the-run (λ s u v w. does s u v)
+use Rattle.line.proofs.Runs.{startOf, start-alike}
+use Rattle.line.proofs.Decided.{Obeys, obeys-along, obeys-does, cells-obey, fromCell, from-cell-obeys}
+use Rattle.line.proofs.Least.{least-of-all, follows-attains, keeps-as-cells}
 
 -- ---- the cells mean what document 01 says
 
 module _ (L : Line) (c d : Table) (W : Worked (bookOf L) (L .trains) c d) where
-  -- go up to train k, keep up to station l, and then do what the cells say
-  abbrev cellRule : ℕ → ℕ → ℕ → ℕ → Decision
-  cellRule k l j s = ifBelow k s (ifBelow s l Keep (choice (bookOf L) d j s)) Go
+  -- a rule that obeys the cells has what the cell has
+  attains : (k l : ℕ) (rule : ℕ → ℕ → Decision) → 1 ≤ k → k ≤ l → l ≤ L .trains + 1 → Obeys (bookOf L) d k l rule
+      → pairsTotal L (dayOf (L .running) (follow rule)) k l ≡ d k l
+  attains k l rule pos a b obeys =
+      follows-attains L c d W (follow rule) k pos (obeys .on-time) l a b (obeys-along (bookOf L) d k l rule pos obeys)
+      (λ s u v w. obeys-does (bookOf L) d k l rule pos obeys s u v)
 
   pub cell-means : (k l : ℕ) → 1 ≤ k → k ≤ l → l ≤ L .trains + 1 → IsCell L k l (d k l)
   cell-means k l pos a b =
+      let obeys = from-cell-obeys (bookOf L) d k l in
       record {
-        policy = follow (cellRule k l);
-        along = on-the-run L c d W (cellRule k l) k l pos a b on-time second before after;
-        attained = rule-attains L c d W (cellRule k l) k l pos a b on-time second before after;
+        policy = follow (fromCell (bookOf L) d k l);
+        along = obeys-along (bookOf L) d k l _ pos obeys;
+        attained = attains k l _ pos a b obeys;
         least = λ p on. least-of-all L c d W p k pos (on .on-time) l a b on;
       }
-    where
-      on-time : departure (L .running) (follow (cellRule k l)) k ≡ 0
-      on-time = go-departs (L .running) (follow (cellRule k l)) k (unfold follow in below-no _ _ (le-refl k))
-
-      second : begins (cellRule k l) (k + 1) ≡ k
-      second =
-          begins-next (cellRule k l) k
-          ∙ ap (λ (x : Decision). under x (begins (cellRule k l) k) k) (below-no _ _ (le-refl k))
-
-      before : (j s : ℕ) → k < s → s < l → cellRule k l j s ≡ Keep
-      before j s u v = below-yes _ _ u ∙ below-yes _ _ v
-
-      after : (j s : ℕ) → k < s → l ≤ s → cellRule k l j s ≡ choice (bookOf L) d j s
-      after j s u v = below-yes _ _ u ∙ below-no _ _ v
 
 pub cell-one : (L : Line) (k l m n : ℕ) → IsCell L k l m → IsCell L k l n → m ≡ n
 cell-one L k l m n M N =
@@ -124,30 +62,15 @@ module _ (L : Line) (c d : Table) (W : Worked (bookOf L) (L .trains) c d) where
       least-of-all L c d W q 1 (omega arith) (first-on-time (L .running) q) 1 (omega arith) (omega arith)
       (along-first (L .running) q)
 
-  second : begins (choice (bookOf L) d) (1 + 1) ≡ 1
-  unfolding begins
-  second =
-      let none : choice (bookOf L) d 1 0 ≡ Keep = choice-none (bookOf L) d 1 0 (late-start (L .running) 1 0 (omega arith)) in
-      rw none (either (choice (bookOf L) d 1 1))
-    where
-      either : (b : Decision) → _≡_ {A = ℕ} (under b 1 1) 1
-      either Keep = refl
-      either Go = refl
-
   -- the decided policy's total is cell (1, 1)
   pub decided-total : total L plan ≡ d 1 1
   unfolding total decide
-  decided-total =
-      rule-attains L c d W (choice (bookOf L) d) 1 1 (omega arith) (omega arith) (omega arith)
-      (first-on-time (L .running) (follow (choice (bookOf L) d))) second (λ j s u v. absurd (omega arith)) (λ j s u v. refl)
+  decided-total = attains L c d W 1 1 _ (omega arith) (omega arith) (omega arith) (cells-obey (bookOf L) d)
 
   -- it does what the cells say on its own runs
   decided-does : (s : ℕ) → 1 < s → plan s ≡ choice (bookOf L) d (startOf (dayOf (L .running) plan) 1 s) s
   unfolding decide
-  decided-does s u =
-      does L c d W (choice (bookOf L) d) 1 1 (omega arith) (omega arith) (omega arith)
-      (first-on-time (L .running) (follow (choice (bookOf L) d))) second (λ j s u v. absurd (omega arith)) (λ j s u v. refl)
-      s u (omega arith)
+  decided-does s u = obeys-does (bookOf L) d 1 1 _ (omega arith) (cells-obey (bookOf L) d) s u (omega arith)
 
   -- a policy of the same total that keeps where it first differs: the plan keeps too
   decided-tie : (q : Policy) → total L q ≡ total L plan → (t : ℕ) → FirstDifference (L .trains) plan q t → q t ≡ Keep → plan t ≡ Keep

@@ -8,12 +8,12 @@
 use mathlib.Core.Path.{_≡_, refl, ap, ap₂, sym, _∙_}
 use mathlib.Core.Bool.{Bool, true, false, true≢false}
 use mathlib.Core.Logic.{_⊎_, inl, inr}
-use Prim.Native.Nat.{ℕ, zero, suc, _+_, _-_, _*_, _≤_, _<_, max}
+use Prim.Native.Nat.{ℕ, zero, suc, _+_, _*_, _≤_, _<_, max}
 use native.Mathlib.Nat.{le-refl, mul-comm, add-zero, eq-or-lt-of-le}
 use native.Mathlib.Omega.{arith}
 use Rattle.lists.specs.Choice.{if_then_else_}
 use Rattle.lists.proofs.Choice.{if-yes, if-no, true-or-false}
-use Rattle.lists.proofs.Induction.{down, up}
+use Rattle.lists.proofs.Induction.{up}
 use Rattle.line.specs.Line.{Line}
 use Rattle.line.specs.Policy.{Day, counts, pairsTotal}
 use Rattle.line.specs.Cells.{leaving, aboard}

@@ -1,8 +1,8 @@
 -- Laws of sums, and of a sum against what falls along it. `over a b f` has the end b outside: f a + .. + f (b - 1).
 -- Assumes nothing.
-use mathlib.Core.Path.{_≡_, refl, ap, ap₂, sym, _∙_}
-use Prim.Native.Nat.{ℕ, zero, suc, _+_, _-_, _*_, _≤_, _<_}
-use native.Mathlib.Nat.{le-refl, le-trans, add-mul, zero-mul}
+use mathlib.Core.Path.{_≡_, refl, ap, _∙_}
+use Prim.Native.Nat.{ℕ, _+_, _-_, _*_, _≤_, _<_}
+use native.Mathlib.Nat.{le-refl}
 use native.Mathlib.Omega.{arith}
 use Rattle.lists.specs.Run.{runOf}
 use Rattle.lists.proofs.Run.{run-next, run-none, run-same}

@@ -1,7 +1,7 @@
 -- Worked tables. Row k is worked from trains k to m alone, so books alike have the same worked table; there is one, and
 -- no other; and a table worked anew up to row t after a change of train t alone is the worked table of the changed line.
 -- Assumes nothing.
-use mathlib.Core.Path.{_≡_, refl, ap, ap₂, sym, subst, _∙_}
+use mathlib.Core.Path.{_≡_, refl, ap, sym, _∙_}
 use mathlib.Core.Logic.{_⊎_, inl, inr}
 use Prim.Native.Nat.{ℕ, zero, suc, _+_, _-_, _*_, _≤_, _<_}
 use native.Mathlib.Nat.{le-refl, le-of-eq, eq-or-lt-of-le}
@@ -14,10 +14,11 @@ use Rattle.line.specs.Sum.{sum_from_to_}
 use Rattle.line.specs.Line.{Running, Line}
 use Rattle.line.specs.Policy.{departure}
 use Rattle.line.specs.Cells.{Table, leaving, aboard, Book, bookOf, runFrom, late, reach, keepCost, goCost, lesser, worked, Worked}
-use Rattle.line.specs.Alike.{RunAlike, LinesAlike, BooksAlike}
+use Rattle.line.specs.Alike.{LinesAlike, BooksAlike}
 use Rattle.line.proofs.Sums.{sum-over, sum-below, over-same}
 use Rattle.line.proofs.Following.{departures-alike, arrivals-alike, run-alike-refl}
-use Rattle.line.proofs.Choices.{late-start, choice-none, choice-keep}
+use Rattle.line.proofs.Along.{late-start}
+use Rattle.line.proofs.Choices.{choice-none, choice-keep}
 
 -- ---- alike from a later train on, and by the sums of lines alike
 

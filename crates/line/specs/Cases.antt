@@ -148,9 +148,9 @@ table =
     ∷ plan (lineB 10 delaysB) b4
     -- b5, b6: T 12 and T 13
     ∷ plan (lineB 12 delaysB)
-        (answer (Go ∷ Keep ∷ []) (9 ∷ 3 ∷ 0 ∷ []) 198 ((198 ∷ 162 ∷ 54 ∷ []) ∷ (30 ∷ 0 ∷ []) ∷ (0 ∷ []) ∷ []))
+    (answer (Go ∷ Keep ∷ []) (9 ∷ 3 ∷ 0 ∷ []) 198 ((198 ∷ 162 ∷ 54 ∷ []) ∷ (30 ∷ 0 ∷ []) ∷ (0 ∷ []) ∷ []))
     ∷ plan (lineB 13 delaysB)
-        (answer (Keep ∷ Keep ∷ []) (9 ∷ 7 ∷ 2 ∷ []) 202 ((202 ∷ 166 ∷ 54 ∷ []) ∷ (30 ∷ 0 ∷ []) ∷ (0 ∷ []) ∷ []))
+    (answer (Keep ∷ Keep ∷ []) (9 ∷ 7 ∷ 2 ∷ []) 202 ((202 ∷ 166 ∷ 54 ∷ []) ∷ (30 ∷ 0 ∷ []) ∷ (0 ∷ []) ∷ []))
     -- b7: b4, then train 1 reported at 5; and the plan of the line as it then is
     ∷ report 1 (b4 .rows) (lineB 10 delaysB7) b7
     ∷ plan (lineB 10 delaysB7) b7
