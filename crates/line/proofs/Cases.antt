@@ -6,10 +6,11 @@ use Rattle.lists.specs.Run.{runOf, listed}
 use Rattle.line.specs.Sum.{sum_from_to_}
 use Rattle.line.specs.Line.{lineFrom}
 use Rattle.line.specs.Policy.{arrival, excess, departure, missed, atFirstMissed, counts, pairsTotal, total}
-use Rattle.line.specs.Cells.{leaving, aboard, runFrom, late, reach, keepCost, goCost, worked}
+use Rattle.line.specs.Cells.{leaving, aboard, runFrom, late, reach, keepCost, goCost, worked, choice, begins}
+use Rattle.line.specs.Cells.{follow, decide}
 use Rattle.line.specs.Cases.{CasesHold}
 
 pub cases : CasesHold
-unfolding ifBelow ifSame runOf listed sum_from_to_ lineFrom arrival excess departure missed atFirstMissed counts pairsTotal total
-    leaving aboard runFrom late reach keepCost goCost worked
+unfolding ifBelow ifSame runOf listed sum_from_to_ lineFrom arrival excess departure missed atFirstMissed counts
+    pairsTotal total leaving aboard runFrom late reach keepCost goCost worked choice begins follow decide
 cases = refl
