@@ -10,9 +10,11 @@ use Rattle.lists.proofs.Induction.{up}
 use Rattle.line.specs.Line.{Running}
 use Rattle.line.specs.Policy.{Keep, Go, Policy, arrival, excess, departure, missed, Day, dayOf}
 use Rattle.line.specs.Cells.{Along, runFrom, late, reach}
-use Rattle.line.proofs.Following.{arrival-departed, excess-next, keep-departs, go-departs, missed-goes, maintained-departs}
+use Rattle.line.proofs.Following.{arrival-departed, excess-next, keep-departs, go-departs, missed-goes}
+use Rattle.line.proofs.Following.{maintained-departs}
 use Rattle.line.proofs.Following.{arrivals-alike, excesses-alike, run-alike-refl}
-use Rattle.line.proofs.Runs.{startOf, start-le, start-first, start-missed, start-kept, start-before, start-clear}
+use Rattle.line.proofs.Starts.{startOf, start-le, start-first, start-missed, start-kept, start-before}
+use Rattle.line.proofs.Starts.{start-clear}
 
 -- ---- the run from train k
 

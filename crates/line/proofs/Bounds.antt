@@ -3,21 +3,20 @@
 -- Assumes nothing.
 use mathlib.Core.Path.{_≡_, refl, ap, sym, _∙_}
 use mathlib.Core.Bool.{Bool, true, false}
-use mathlib.Core.Logic.{_⊎_, inl, inr}
 use Prim.Native.Nat.{ℕ, _+_, _-_, _*_, _≤_, _<_}
 use native.Mathlib.Nat.{le-refl, le-trans, le-of-eq, mul-le-mul}
 use native.Mathlib.Omega.{arith}
 use Rattle.lists.specs.Choice.{if_then_else_}
 use Rattle.lists.specs.Run.{runOf}
-use Rattle.lists.proofs.Order.{lt-or-ge}
 use Rattle.lists.proofs.Induction.{down, up}
-use Rattle.line.specs.Sum.{sum_from_to_}
 use Rattle.line.specs.Line.{Running, Line}
-use Rattle.line.specs.Policy.{Decision, Keep, Go, Policy, under, arrival, departure, missed, Day, dayOf, counts, pairsTotal, total}
+use Rattle.line.specs.Policy.{Decision, Keep, Go, Policy, under, arrival, departure, missed, Day, dayOf, counts}
+use Rattle.line.specs.Policy.{total}
 use Rattle.line.specs.Cells.{Table, leaving, aboard, Book, bookOf, runFrom, reach, keepCost, Worked}
 use Rattle.line.specs.Ranges.{RunInRange, LineInRange, InRange}
-use Rattle.line.proofs.Sums.{over, sum-over, sum-below, over-first, over-none, over-split, over-scale, over-le, falls-within}
-use Rattle.line.proofs.Passengers.{counts-last, counts-next}
+use Rattle.line.proofs.Sums.{over, sum-over, over-first, over-none, over-split, over-scale, over-le}
+use Rattle.line.proofs.Sums.{falls-within}
+use Rattle.line.proofs.Passengers.{counts-last, counts-next, pairs-over, leaving-over, aboard-over}
 use Rattle.line.proofs.Following.{arrival-departed, excess-next}
 use Rattle.line.proofs.Choices.{worked-le-keep}
 
@@ -115,24 +114,30 @@ module _ (L : Line) (range : LineInRange L) where
       all : over 1 65 (λ t. t * 10000) ≡ 20800000
       all = unfold over in unfold runOf in refl
 
-  pub range-of-line : InRange (bookOf L)
-  range-of-line = record { running = range .running; period = range .period; leaving = leavers; aboard = riders }
-    where
-      leavers : (k : ℕ) → 1 ≤ k → k ≤ L .trains → sum (leaving L k) from k to (L .trains) ≤ 20800000
-      leavers k pos a = unfold leaving in
-          le-trans (le-of-eq (sum-over _ k (L .trains)))
-          (le-trans
-          (over-le k (L .trains + 1) _ _ (omega arith)
-          (λ t u v. le-trans (le-of-eq (sum-over _ k t)) (inner-le k (t + 1) t pos (omega arith) (le-refl (t + 1)) (omega arith))))
-          (outer-le k pos (omega arith)))
+  -- those who board from k on and leave
+  leavers-of-line : (k : ℕ) → 1 ≤ k → k ≤ L .trains + 1 → over k (L .trains + 1) (leaving L k) ≤ 20800000
+  leavers-of-line k pos a =
+      le-trans
+      (over-le k (L .trains + 1) _ _ a
+      (λ t u v. le-trans (le-of-eq (leaving-over L k t)) (inner-le k (t + 1) t pos (omega arith) (le-refl _) (omega arith))))
+      (outer-le k pos a)
 
-      riders : (k l : ℕ) → 1 ≤ k → k < l → l ≤ L .trains → aboard L k l ≤ 20800000
-      riders k l pos a b = unfold aboard in
-          le-trans (le-of-eq (sum-over _ l (L .trains)))
-          (le-trans
-          (over-le l (L .trains + 1) _ _ (omega arith)
-          (λ t u v. le-trans (le-of-eq (sum-below _ k l (omega arith))) (inner-le k l t pos (omega arith) (omega arith) (omega arith))))
-          (outer-le l (omega arith) (omega arith)))
+  aboard-of-line : (k l : ℕ) → 1 ≤ k → k < l → l ≤ L .trains → aboard L k l ≤ 20800000
+  aboard-of-line k l pos a b =
+      le-trans (le-of-eq (aboard-over L k l (omega arith)))
+      (le-trans
+      (over-le l (L .trains + 1) _ _ (omega arith)
+      (λ t u v. inner-le k l t pos (omega arith) (omega arith) (omega arith)))
+      (outer-le l (omega arith) (omega arith)))
+
+  pub range-of-line : InRange (bookOf L)
+  range-of-line =
+      record {
+        running = range .running;
+        period = range .period;
+        leaving = λ k a b. le-trans (le-of-eq (sum-over _ k (L .trains))) (leavers-of-line k a (omega arith));
+        aboard = aboard-of-line;
+      }
 
   -- a passenger counts no more than the largest delay, which is more than any period
   counts-le : (D : Day) → ((i : ℕ) → i ≤ L .trains → D .arrival i ≤ 92160) → (i t : ℕ) → 1 ≤ i → i ≤ t → t ≤ L .trains
@@ -150,25 +155,26 @@ module _ (L : Line) (range : LineInRange L) where
 
   -- No total can pass 1,916,928,000,000 passenger-minutes, under any policy.
   pub total-le : (p : Policy) → total L p ≤ 1916928000000
-  unfolding total pairsTotal
+  unfolding total
   total-le p =
-      le-trans (le-of-eq (sum-over _ 1 (L .trains)))
+      le-trans (le-of-eq (pairs-over L D 1 1))
       (le-trans
-      (over-le 1 (L .trains + 1) _ (λ t. leaving L 1 t * 92160) (omega arith) (λ t u v. each t u (omega arith)))
-      (omega (arith, over-scale 1 (L .trains + 1) (leaving L 1) 92160 (omega arith), leavers)))
+      (over-le 1 (L .trains + 1) _ (λ t. leaving L 1 t * 92160) (omega arith) (λ t u v. train-le t (omega arith)))
+      (omega (arith, over-scale 1 (L .trains + 1) (leaving L 1) 92160 (omega arith), leavers-of-line 1 (le-refl 1) (omega arith))))
     where
-      leavers : over 1 (L .trains + 1) (leaving L 1) ≤ 20800000
-      leavers = elim (lt-or-ge 0 (L .trains)) [
-        | inl some ↦ le-trans (le-of-eq (sym (sum-over _ 1 (L .trains)))) (range-of-line .leaving 1 (le-refl 1) some)
-        | inr none ↦ omega (arith, over-none 1 (L .trains + 1) (leaving L 1) (omega arith))
-      ]
+      D : Day
+      D = dayOf (L .running) p
 
-      each : (t : ℕ) → 1 ≤ t → t ≤ L .trains
-          → sum (λ i. L .passengers i (t + 1) * counts L (dayOf (L .running) p) i (t + 1)) from 1 to t ≤ leaving L 1 t * 92160
-      each t a b = unfold leaving in
-          le-trans (le-of-eq (sum-over _ 1 t))
-          (le-trans
+      late : (i : ℕ) → i ≤ L .trains → arrival (L .running) p i ≤ 92160
+      late = arrival-le (L .trains) (L .running) (range .running) p
+
+      -- those who leave train t
+      train-le : (t : ℕ) → t ≤ L .trains
+          → over 1 (t + 1) (λ i. L .passengers i (t + 1) * counts L (dayOf (L .running) p) i (t + 1)) ≤ leaving L 1 t * 92160
+      train-le t b =
+          le-trans
           (over-le 1 (t + 1) _ (λ i. L .passengers i (t + 1) * 92160) (omega arith)
-          (λ i u v. mul-le-mul (le-refl (L .passengers i (t + 1)))
-          (counts-le (dayOf (L .running) p) (arrival-le (L .trains) (L .running) (range .running) p) i t u (omega arith) b)))
-          (le-of-eq (over-scale 1 (t + 1) (λ i. L .passengers i (t + 1)) 92160 (omega arith) ∙ ap (λ (x : ℕ). x * 92160) (sym (sum-over _ 1 t)))))
+          (λ i u v. mul-le-mul (le-refl _) (counts-le (dayOf (L .running) p) late i t u (omega arith) b)))
+          (le-of-eq
+          (over-scale 1 (t + 1) (λ i. L .passengers i (t + 1)) 92160 (omega arith)
+          ∙ ap (λ (x : ℕ). x * 92160) (sym (leaving-over L 1 t))))

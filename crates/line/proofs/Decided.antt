@@ -14,8 +14,9 @@ use Rattle.lists.proofs.Induction.{up}
 use Rattle.line.specs.Line.{Running}
 use Rattle.line.specs.Policy.{Decision, Keep, Go, Policy, under, arrival, departure, missed, Day, dayOf}
 use Rattle.line.specs.Cells.{Table, Along, Book, reach, choice, begins, follow, decide}
-use Rattle.line.proofs.Following.{keep-or-go, keep-not-go, under-keep, under-go, first-on-time, go-departs, keep-maintains, go-misses}
-use Rattle.line.proofs.Runs.{startOf, start-le, start-missed, start-kept, start-second}
+use Rattle.line.proofs.Following.{keep-or-go, keep-not-go, under-keep, under-go, first-on-time, go-departs}
+use Rattle.line.proofs.Following.{keep-maintains, go-misses}
+use Rattle.line.proofs.Starts.{startOf, start-le, start-missed, start-kept, start-second}
 use Rattle.line.proofs.Along.{late-start, start-arrives, start-excess}
 use Rattle.line.proofs.Choices.{choice-none, choice-go}
 

@@ -9,7 +9,8 @@ use native.Mathlib.Omega.{arith}
 use Rattle.lists.proofs.Order.{zero-not-one}
 use Rattle.lists.proofs.Induction.{up}
 use Rattle.line.specs.Line.{Running, Line}
-use Rattle.line.specs.Policy.{Decision, Keep, Go, Policy, under, misses, arrival, excess, departure, missed, dayOf, total}
+use Rattle.line.specs.Policy.{Decision, Keep, Go, Policy, under, misses, arrival, excess, departure, missed}
+use Rattle.line.specs.Policy.{dayOf, total}
 use Rattle.line.specs.Alike.{RunAlike, LinesAlike}
 use Rattle.line.proofs.Passengers.{DaysAlike, pairs-alike}
 

@@ -1,13 +1,15 @@
 pub mod Sums
 pub mod Passengers
 pub mod Following
+pub mod Starts
 pub mod Runs
 pub mod Along
 pub mod Choices
 pub mod Decided
 pub mod Least
-pub mod Plan
 pub mod Tables
+pub mod Worked
+pub mod Plan
 pub mod Bounds
 pub mod Base
 pub mod Cases

@@ -13,7 +13,8 @@ use Rattle.line.specs.Line.{Line}
 use Rattle.line.specs.Policy.{Day, atFirstMissed, dropped, counts, pairsTotal}
 use Rattle.line.specs.Sum.{sum_from_to_}
 use Rattle.line.specs.Alike.{LinesAlike}
-use Rattle.line.proofs.Sums.{sum-over, over-same}
+use Rattle.line.specs.Cells.{leaving, aboard}
+use Rattle.line.proofs.Sums.{over, sum-over, sum-below, over-same}
 
 -- no transfer at a station strictly between i and j is missed
 abbrev pub Clear : Day → ℕ → ℕ → Type 0
@@ -116,6 +117,22 @@ module _ (L : Line) (D : Day) where
       first-clear D _ _ i (l - 1) t (omega arith) (omega arith) (λ s u v. clear s u (omega arith))
       ∙ counts-next (l - 1) t (omega arith) ∙ if-yes _ _ (ap (D .missed) here ∙ m) ∙ ap (L .period) here
 
+-- ---- the sums of passengers, written with the end outside
+
+pub pairs-over : (L : Line) (D : Day) (k l : ℕ) → pairsTotal L D k l
+    ≡ over l (L .trains + 1) (λ t. over k (t + 1) (λ i. L .passengers i (t + 1) * counts L D i (t + 1)))
+unfolding pairsTotal sum_from_to_ over
+pairs-over L D k l = refl
+
+pub leaving-over : (L : Line) (k l : ℕ) → leaving L k l ≡ over k (l + 1) (λ i. L .passengers i (l + 1))
+unfolding leaving sum_from_to_ over
+leaving-over L k l = refl
+
+pub aboard-over : (L : Line) (k l : ℕ) → 1 ≤ l
+    → aboard L k l ≡ over l (L .trains + 1) (λ t. over k l (λ i. L .passengers i (t + 1)))
+unfolding aboard
+aboard-over L k l pos = sum-over _ l (L .trains) ∙ over-same l (L .trains + 1) _ _ (λ t a b. sum-below _ k l pos)
+
 -- ---- what is read
 
 pub record DaysAlike (k m : ℕ) (D E : Day) : Type 0 where
@@ -134,17 +151,10 @@ module _ (k : ℕ) (L M : Line) (D E : Day) (lines : LinesAlike k L M) (days : D
 
   -- those who board at k or later: trains k to m alone
   pub pairs-alike : (l : ℕ) → k ≤ l → pairsTotal L D k l ≡ pairsTotal M E k l
-  unfolding pairsTotal
   pairs-alike l a =
-      sum-over _ l (L .trains)
+      pairs-over L D k l
       ∙ over-same l (L .trains + 1) _ _
-      (λ t b c.
-      sum-over _ k t
-      ∙ over-same k (t + 1) _ _
-      (λ i d e.
-      ap₂ (λ (x y : ℕ). x * y) (lines .passengers i (t + 1) d (omega arith) (omega arith))
-      (counts-alike i t d (omega arith) (omega arith)))
-      ∙ sym (sum-over _ k t))
-      ∙ sym (sum-over _ l (L .trains))
-      ∙ ap (λ (m : ℕ). sum (λ t. sum (λ i. M .passengers i (t + 1) * counts M E i (t + 1)) from k to t) from l to m)
-      (lines .trains)
+      (λ t b c. over-same k (t + 1) _ _
+      (λ i d e. ap₂ _*_ (lines .passengers i (t + 1) d e (omega arith)) (counts-alike i t d (omega arith) (omega arith))))
+      ∙ ap (λ (m : ℕ). over l (m + 1) (λ t. over k (t + 1) (λ i. M .passengers i (t + 1) * counts M E i (t + 1)))) (lines .trains)
+      ∙ sym (pairs-over M E k l)

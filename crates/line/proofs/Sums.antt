@@ -58,6 +58,12 @@ over-scale a b f x l =
     (rw (over-none b b f (le-refl b), over-none b b (λ j. f j * x) (le-refl b)) (omega arith))
     (λ i v w e. rw (over-first i b f w, over-first i b (λ j. f j * x) w, e) (omega arith))
 
+-- a factor that is the same at every place
+pub over-times : (a b : ℕ) (f g : ℕ → ℕ) (x : ℕ) → a ≤ b → ((i : ℕ) → a ≤ i → i < b → g i ≡ x)
+    → over a b (λ i. f i * g i) ≡ over a b f * x
+over-times a b f g x l h =
+    over-same a b _ (λ i. f i * x) (λ i v w. ap (λ (y : ℕ). f i * y) (h i v w)) ∙ over-scale a b f x l
+
 pub over-le : (a b : ℕ) (f g : ℕ → ℕ) → a ≤ b → ((i : ℕ) → a ≤ i → i < b → f i ≤ g i) → over a b f ≤ over a b g
 over-le a b f g l h =
     down (λ (i : ℕ). over i b f ≤ over i b g) a b l

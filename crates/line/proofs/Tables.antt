@@ -10,12 +10,13 @@ use Rattle.lists.specs.Choice.{ifBelow}
 use Rattle.lists.proofs.Choice.{below-yes, below-no}
 use Rattle.lists.proofs.Order.{lt-or-ge}
 use Rattle.lists.proofs.Induction.{down}
-use Rattle.line.specs.Sum.{sum_from_to_}
 use Rattle.line.specs.Line.{Running, Line}
 use Rattle.line.specs.Policy.{departure}
-use Rattle.line.specs.Cells.{Table, leaving, aboard, Book, bookOf, runFrom, late, reach, keepCost, goCost, lesser, worked, Worked}
+use Rattle.line.specs.Cells.{Table, leaving, aboard, Book, bookOf, runFrom, late, reach, keepCost, goCost, lesser}
+use Rattle.line.specs.Cells.{worked, Worked}
 use Rattle.line.specs.Alike.{LinesAlike, BooksAlike}
-use Rattle.line.proofs.Sums.{sum-over, sum-below, over-same}
+use Rattle.line.proofs.Sums.{over, over-same}
+use Rattle.line.proofs.Passengers.{leaving-over, aboard-over}
 use Rattle.line.proofs.Following.{departures-alike, arrivals-alike, run-alike-refl}
 use Rattle.line.proofs.Along.{late-start}
 use Rattle.line.proofs.Choices.{choice-none, choice-keep}
@@ -47,23 +48,18 @@ books-alike-refl k B =
 
 module _ (k : ℕ) (L M : Line) (alike : LinesAlike k L M) where
   leaving-alike : (i l : ℕ) → k ≤ i → i ≤ l → l ≤ L .trains → leaving L i l ≡ leaving M i l
-  unfolding leaving
   leaving-alike i l a b u =
-      sum-over _ i l
+      leaving-over L i l
       ∙ over-same i (l + 1) _ _ (λ j c d. alike .passengers j (l + 1) (omega arith) d (omega arith))
-      ∙ sym (sum-over _ i l)
+      ∙ sym (leaving-over M i l)
 
   aboard-alike : (i l : ℕ) → k ≤ i → i < l → l ≤ L .trains → aboard L i l ≡ aboard M i l
-  unfolding aboard
   aboard-alike i l a b u =
-      sum-over _ l (L .trains)
+      aboard-over L i l (omega arith)
       ∙ over-same l (L .trains + 1) _ _
-      (λ t c d.
-      sum-below _ i l (omega arith)
-      ∙ over-same i l _ _ (λ j e f. alike .passengers j (t + 1) (omega arith) (omega arith) (omega arith))
-      ∙ sym (sum-below _ i l (omega arith)))
-      ∙ sym (sum-over _ l (L .trains))
-      ∙ ap (λ (m : ℕ). sum (λ t. sum (λ j. M .passengers j (t + 1)) from i to (l - 1)) from l to m) (alike .trains)
+      (λ t c d. over-same i l _ _ (λ j e f. alike .passengers j (t + 1) (omega arith) (omega arith) (omega arith)))
+      ∙ ap (λ (m : ℕ). over l (m + 1) (λ t. over i l (λ j. M .passengers j (t + 1)))) (alike .trains)
+      ∙ sym (aboard-over M i l (omega arith))
 
   pub books-of-lines : BooksAlike k (bookOf L) (bookOf M)
   books-of-lines =
