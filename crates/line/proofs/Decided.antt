@@ -90,7 +90,7 @@ module _ (B : Book) (c : Table) (k l : ℕ) (rule : ℕ → ℕ → Decision) (p
 
 module _ (B : Book) (c : Table) where
   -- what the cells say, from train 1 on
-  first-run : begins (choice B c) 1 ≡ 1
+  pub first-run : begins (choice B c) 1 ≡ 1
   unfolding begins
   first-run = rw (choice-none B c 1 0 (late-start (B .running) 1 0 (omega arith)))
 
@@ -128,6 +128,16 @@ module _ (B : Book) (c : Table) where
 -- ---- delays read off
 
 module _ (B : Book) (c : Table) where
+  -- the run that reaches station s begins before it
+  pub begins-le : (s : ℕ) → 1 ≤ s → (1 ≤ begins (choice B c) s) × (begins (choice B c) s ≤ s)
+  begins-le s a =
+      up (λ (j : ℕ). (1 ≤ begins (choice B c) j) × (begins (choice B c) j ≤ j)) 1 s a
+      (le-of-eq (sym (first-run B c)), le-of-eq (first-run B c))
+      (λ j u v h. elim (keep-or-go (choice B c (begins (choice B c) j) j)) [
+        | inl keep ↦ let e = begins-next (choice B c) j ∙ under-keep _ _ keep in omega arith
+        | inr go ↦ let e = begins-next (choice B c) j ∙ under-go _ _ go in omega arith
+      ])
+
   -- train s arrives as on the run that it is on,
   pub decided-arrives : (s : ℕ) → 1 ≤ s → arrival (B .running) (decide B c) s ≡ reach (B .running) (begins (choice B c) (s + 1)) s
   unfolding decide

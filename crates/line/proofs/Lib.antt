@@ -7,6 +7,7 @@ pub mod Along
 pub mod Choices
 pub mod Decided
 pub mod Least
+pub mod Alike
 pub mod Tables
 pub mod Worked
 pub mod Plan
