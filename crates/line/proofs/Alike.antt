@@ -1,5 +1,5 @@
--- Lines and books alike from train k on have the same sums, the same runs, the same worked cells and the same choices from
--- row k on: row k depends on trains k to m alone.
+-- Row k depends on trains k to m alone: lines and books alike from train k on have the same sums, runs, worked cells
+-- and choices there.
 -- Assumes nothing.
 use mathlib.Core.Path.{_≡_, refl, ap, sym, _∙_}
 use mathlib.Core.Logic.{_⊎_, inl, inr}
@@ -136,7 +136,8 @@ module _ (A B : Book) (c d : Table) (alike : BooksAlike 1 A B)
       let in-line = begins-le B d j u in
       begins-next (choice A c) j
       ∙ ap (λ (k : ℕ). under (choice A c k j) k j) e
-      ∙ ap (λ (x : Decision). under x (begins (choice B d) j) j) (choices-alike _ j (in-line .0) (in-line .1) (omega arith))
+      ∙ ap (λ (x : Decision). under x (begins (choice B d) j) j)
+      (choices-alike _ j (in-line .0) (in-line .1) (omega arith))
       ∙ sym (begins-next (choice B d) j))
 
   -- the policies that are read off are alike on the trains in use

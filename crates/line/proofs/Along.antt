@@ -59,12 +59,13 @@ module _ (R : Running) (k : ℕ) where
     pub along-arrives : (n : ℕ) → k ≤ n → n < l → arrival R p n ≡ reach R k n
     unfolding reach
     along-arrives n a b =
-        arrivals-alike k n R R p (runFrom k) pos (run-alike-refl k n R) begins-alike n a (le-refl n) (departs-alike n b)
+        arrivals-alike k n R R p (runFrom k) pos (run-alike-refl k n R) begins-alike
+        n a (le-refl n) (departs-alike n b)
 
     pub along-excess : k < l → excess R p l ≡ late R k l
     along-excess h =
-        excesses-alike k l R R p (runFrom k) pos (run-alike-refl k l R) begins-alike (l - 1) l (omega arith) (omega arith)
-        (omega arith) (departs-alike (l - 1) (omega arith))
+        excesses-alike k l R R p (runFrom k) pos (run-alike-refl k l R) begins-alike
+        (l - 1) l (omega arith) (omega arith) (omega arith) (departs-alike (l - 1) (omega arith))
         ∙ sym (late-excess l h)
 
 -- ---- a policy along its own runs, train k departing with delay 0

@@ -16,7 +16,8 @@ module _ (m T : ℕ) (departs driving delay : ℕ → ℕ) (passengers : ℕ →
   line = lineFrom m T departs driving delay passengers
 
   -- A train arrives with its departure delay plus its source delay.
-  pub base-arrival : (p : Policy) (i : ℕ) → 1 ≤ i → arrival (line .running) p i ≡ departure (line .running) p i + delay i
+  pub base-arrival : (p : Policy) (i : ℕ) → 1 ≤ i
+      → arrival (line .running) p i ≡ departure (line .running) p i + delay i
   unfolding lineFrom
   base-arrival p i pos = arrival-departed (line .running) p i pos
 

@@ -75,8 +75,8 @@ module _ (B : Book) (range : InRange B) (k : ℕ) (pos : 1 ≤ k) where
         W .last k,
         falls-within l (B .trains + 1) (λ s. B .leaving k s * reach (B .running) k s) (d k) (omega arith)
             (λ s u v. keep s (omega arith) (omega arith)),
-        over-le l (B .trains + 1) (λ s. B .leaving k s * reach (B .running) k s) (λ s. B .leaving k s * 92160) (omega arith)
-            (λ s u v. mul-le-mul (le-refl (B .leaving k s)) (reach-le s (omega arith))),
+        over-le l (B .trains + 1) (λ s. B .leaving k s * reach (B .running) k s) (λ s. B .leaving k s * 92160)
+            (omega arith) (λ s u v. mul-le-mul (le-refl (B .leaving k s)) (reach-le s (omega arith))),
         over-scale l (B .trains + 1) (B .leaving k) 92160 (omega arith),
         leavers-le l a b,
       )
@@ -88,7 +88,8 @@ module _ (B : Book) (range : InRange B) (k : ℕ) (pos : 1 ≤ k) where
 
 module _ (L : Line) (range : LineInRange L) where
   -- some of those who leave train t
-  inner-le : (k l t : ℕ) → 1 ≤ k → k ≤ l → l ≤ t + 1 → t ≤ L .trains → over k l (λ i. L .passengers i (t + 1)) ≤ t * 10000
+  inner-le : (k l t : ℕ) → 1 ≤ k → k ≤ l → l ≤ t + 1 → t ≤ L .trains
+      → over k l (λ i. L .passengers i (t + 1)) ≤ t * 10000
   inner-le k l t pos a b u =
       le-trans
       (over-le k l _ (λ i. 10000) a (λ i v w. range .passengers i (t + 1) (omega arith) (omega arith) (omega arith)))
@@ -119,7 +120,8 @@ module _ (L : Line) (range : LineInRange L) where
   leavers-of-line k pos a =
       le-trans
       (over-le k (L .trains + 1) _ _ a
-      (λ t u v. le-trans (le-of-eq (leaving-over L k t)) (inner-le k (t + 1) t pos (omega arith) (le-refl _) (omega arith))))
+      (λ t u v.
+      le-trans (le-of-eq (leaving-over L k t)) (inner-le k (t + 1) t pos (omega arith) (le-refl _) (omega arith))))
       (outer-le k pos a)
 
   aboard-of-line : (k l : ℕ) → 1 ≤ k → k < l → l ≤ L .trains → aboard L k l ≤ 20800000
@@ -160,7 +162,11 @@ module _ (L : Line) (range : LineInRange L) where
       le-trans (le-of-eq (pairs-over L D 1 1))
       (le-trans
       (over-le 1 (L .trains + 1) _ (λ t. leaving L 1 t * 92160) (omega arith) (λ t u v. train-le t (omega arith)))
-      (omega (arith, over-scale 1 (L .trains + 1) (leaving L 1) 92160 (omega arith), leavers-of-line 1 (le-refl 1) (omega arith))))
+      (omega (
+        arith,
+        over-scale 1 (L .trains + 1) (leaving L 1) 92160 (omega arith),
+        leavers-of-line 1 (le-refl 1) (omega arith),
+      )))
     where
       D : Day
       D = dayOf (L .running) p
@@ -170,11 +176,11 @@ module _ (L : Line) (range : LineInRange L) where
 
       -- those who leave train t
       train-le : (t : ℕ) → t ≤ L .trains
-          → over 1 (t + 1) (λ i. L .passengers i (t + 1) * counts L (dayOf (L .running) p) i (t + 1)) ≤ leaving L 1 t * 92160
+          → over 1 (t + 1) (λ i. L .passengers i (t + 1) * counts L D i (t + 1)) ≤ leaving L 1 t * 92160
       train-le t b =
           le-trans
           (over-le 1 (t + 1) _ (λ i. L .passengers i (t + 1) * 92160) (omega arith)
-          (λ i u v. mul-le-mul (le-refl _) (counts-le (dayOf (L .running) p) late i t u (omega arith) b)))
+          (λ i u v. mul-le-mul (le-refl _) (counts-le D late i t u (omega arith) b)))
           (le-of-eq
           (over-scale 1 (t + 1) (λ i. L .passengers i (t + 1)) 92160 (omega arith)
           ∙ ap (λ (x : ℕ). x * 92160) (sym (leaving-over L 1 t))))

@@ -1,5 +1,5 @@
--- A policy that is read off cells, whatever they hold: its runs are those by which it was read off. For the cells go only
--- where there is an excess, so that each go is a miss and begins a run.
+-- A policy that is read off cells, whatever they hold: its runs are those by which it was read off, because the cells
+-- go only where there is an excess, so that each go is a miss and begins a run.
 -- Assumes nothing.
 use mathlib.Core.Path.{_≡_, refl, ap, sym, _∙_}
 use mathlib.Core.Logic.{_⊎_, inl, inr}
@@ -22,7 +22,8 @@ use Rattle.line.proofs.Choices.{choice-none, choice-go}
 
 -- a policy that goes where the cells go misses there
 pub goes-missed : (B : Book) (c : Table) (p : Policy) (k : ℕ) → 1 ≤ k → departure (B .running) p k ≡ 0
-    → (s : ℕ) → k ≤ s → choice B c (startOf (dayOf (B .running) p) k s) s ≡ Go → p s ≡ Go → missed (B .running) p s ≡ true
+    → (s : ℕ) → k ≤ s → choice B c (startOf (dayOf (B .running) p) k s) s ≡ Go → p s ≡ Go
+    → missed (B .running) p s ≡ true
 goes-missed B c p k pos on-time s a go same =
     let chosen = choice-go B c _ s go in
     elim (eq-or-lt-of-le (start-le (dayOf (B .running) p) k s a .1)) [
@@ -138,8 +139,9 @@ module _ (B : Book) (c : Table) where
         | inr go ↦ let e = begins-next (choice B c) j ∙ under-go _ _ go in omega arith
       ])
 
-  -- train s arrives as on the run that it is on,
-  pub decided-arrives : (s : ℕ) → 1 ≤ s → arrival (B .running) (decide B c) s ≡ reach (B .running) (begins (choice B c) (s + 1)) s
+  -- train s arrives as on the run that it is on, which reaches station s + 1
+  pub decided-arrives : (s : ℕ) → 1 ≤ s
+      → arrival (B .running) (decide B c) s ≡ reach (B .running) (begins (choice B c) (s + 1)) s
   unfolding decide
   decided-arrives s a =
       start-arrives (B .running) (follow (choice B c)) 1 (omega arith) (cells-obey B c .on-time) s a

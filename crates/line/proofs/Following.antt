@@ -124,10 +124,11 @@ module _ (k m : ℕ) (R S : Running) (p q : Policy) (pos : 1 ≤ k) (run : RunAl
       arrival-departed R p i (omega arith) ∙ run .arrive i _ a b ∙ ap (S .arrive i) e
       ∙ sym (arrival-departed S q i (omega arith))
 
-  excess-of-departure : (i : ℕ) → k ≤ i → i < m → departure R p i ≡ departure S q i → excess R p (i + 1) ≡ excess S q (i + 1)
+  excess-of-departure : (i : ℕ) → k ≤ i → i < m → departure R p i ≡ departure S q i
+      → excess R p (i + 1) ≡ excess S q (i + 1)
   excess-of-departure i a b e =
       excess-next R p i
-      ∙ ap₂ (λ (x y : ℕ). x - y) (arrival-of-departure i a (omega arith) e) (run .slack (i + 1) (omega arith) (omega arith))
+      ∙ ap₂ _-_ (arrival-of-departure i a (omega arith) e) (run .slack (i + 1) (omega arith) (omega arith))
       ∙ sym (excess-next S q i)
 
   pub departures-alike : (n : ℕ) → k ≤ n → n ≤ m → DepartsAlike n → departure R p n ≡ departure S q n
@@ -140,7 +141,8 @@ module _ (k m : ℕ) (R S : Running) (p q : Policy) (pos : 1 ≤ k) (run : RunAl
 
   pub excesses-alike : (n s : ℕ) → k ≤ n → n < m → n + 1 ≡ s → DepartsAlike n → excess R p s ≡ excess S q s
   excesses-alike n s a b e step =
-      subst (λ (j : ℕ). excess R p j ≡ excess S q j) e (excess-of-departure n a b (departures-alike n a (omega arith) step))
+      subst (λ (j : ℕ). excess R p j ≡ excess S q j) e
+      (excess-of-departure n a b (departures-alike n a (omega arith) step))
 
   -- where at the same excess the same is missed too, the days are alike
   pub days-alike : DepartsAlike m
@@ -176,7 +178,8 @@ lines-alike-refl k L =
 
 -- Arrivals and the total read the trains in use alone: nothing of a line after its last train, no slack or period at
 -- station 1, and a policy at trains 2 to m.
-module _ (L M : Line) (p q : Policy) (lines : LinesAlike 1 L M) (same : (s : ℕ) → 2 ≤ s → s ≤ L .trains → p s ≡ q s) where
+module _ (L M : Line) (p q : Policy) (lines : LinesAlike 1 L M)
+    (same : (s : ℕ) → 2 ≤ s → s ≤ L .trains → p s ≡ q s) where
   pub same-days : DaysAlike 1 (L .trains) (dayOf (L .running) p) (dayOf (M .running) q)
   same-days =
       policies-alike 1 (L .trains) (L .running) (M .running) p q (omega arith) (lines .running)

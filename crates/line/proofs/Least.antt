@@ -1,6 +1,6 @@
--- A policy against a worked table. Along the policy's own runs the cell at which it stands falls from station to station
--- by no more than the station costs, and by just that where the policy does what the cells say. Summed up, no policy has
--- less than the cell at which it begins, and one that does what the cells say has just that.
+-- A policy against a worked table. Along the policy's own runs the cell at which it stands falls from station to
+-- station by no more than the station costs, and by just that where the policy does what the cells say. Summed up, no
+-- policy has less than the cell at which it begins, and one that does what the cells say has just that.
 -- Assumes nothing.
 use mathlib.Core.Path.{_≡_, ap, subst, _∙_}
 use mathlib.Core.Logic.{_⊎_, inl, inr}
@@ -104,7 +104,8 @@ module _ (L : Line) (c d : Table) (W : Worked (bookOf L) (L .trains) c d) where
 
   -- ---- all stations from l on
 
-  module _ (p : Policy) (k l : ℕ) (pos : 1 ≤ k) (a : k ≤ l) (b : l ≤ L .trains + 1) (on : Along (L .running) p k l) where
+  module _ (p : Policy) (k l : ℕ) (pos : 1 ≤ k) (a : k ≤ l) (b : l ≤ L .trains + 1)
+      (on : Along (L .running) p k l) where
     abbrev day : Day
     day = dayOf R p
 

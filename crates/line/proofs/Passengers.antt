@@ -87,7 +87,8 @@ module _ (L : Line) (D : Day) where
   unfolding counts
   counts-next i t l = first-next D _ _ i t l
 
-  -- With the period T everywhere, each passenger of a dropped pair counts T, and each other the delay of the last train.
+  -- With the period T everywhere, each passenger of a dropped pair counts T, and each other the delay of the last
+  -- train.
   pub counts-one-period : (T i t : ℕ) → i ≤ t → ((s : ℕ) → i < s → s ≤ t → L .period s ≡ T)
       → counts L D i (t + 1) ≡ (if dropped D i (t + 1) then T else D .arrival t)
   unfolding dropped
@@ -110,7 +111,8 @@ module _ (L : Line) (D : Day) where
   counts-kept i t l clear = first-clear D _ _ i t t l (omega arith) clear ∙ counts-last t
 
   -- one who first misses at station l counts the period there
-  pub counts-missed : (i l t : ℕ) → i < l → l ≤ t → Clear D i l → D .missed l ≡ true → counts L D i (t + 1) ≡ L .period l
+  pub counts-missed : (i l t : ℕ) → i < l → l ≤ t → Clear D i l → D .missed l ≡ true
+      → counts L D i (t + 1) ≡ L .period l
   unfolding counts
   counts-missed i l t a b clear m =
       let here : l - 1 + 1 ≡ l = omega arith in
@@ -155,6 +157,9 @@ module _ (k : ℕ) (L M : Line) (D E : Day) (lines : LinesAlike k L M) (days : D
       pairs-over L D k l
       ∙ over-same l (L .trains + 1) _ _
       (λ t b c. over-same k (t + 1) _ _
-      (λ i d e. ap₂ _*_ (lines .passengers i (t + 1) d e (omega arith)) (counts-alike i t d (omega arith) (omega arith))))
-      ∙ ap (λ (m : ℕ). over l (m + 1) (λ t. over k (t + 1) (λ i. M .passengers i (t + 1) * counts M E i (t + 1)))) (lines .trains)
+      (λ i d e.
+      ap₂ _*_ (lines .passengers i (t + 1) d e (omega arith)) (counts-alike i t d (omega arith) (omega arith))))
+      ∙ ap
+      (λ (m : ℕ). over l (m + 1) (λ t. over k (t + 1) (λ i. M .passengers i (t + 1) * counts M E i (t + 1))))
+      (lines .trains)
       ∙ sym (pairs-over M E k l)

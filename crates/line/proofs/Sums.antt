@@ -49,7 +49,8 @@ over-split a b c f l u =
 pub over-add : (a b : ℕ) (f g : ℕ → ℕ) → a ≤ b → over a b (λ i. f i + g i) ≡ over a b f + over a b g
 over-add a b f g l =
     down (λ (i : ℕ). over i b (λ j. f j + g j) ≡ over i b f + over i b g) a b l
-    (omega (arith, over-none b b f (le-refl b), over-none b b g (le-refl b), over-none b b (λ j. f j + g j) (le-refl b)))
+    (let none : (h : ℕ → ℕ) → over b b h ≡ 0 = λ h. over-none b b h (le-refl b) in
+    omega (arith, none f, none g, none (λ j. f j + g j)))
     (λ i v w e. omega (arith, e, over-first i b f w, over-first i b g w, over-first i b (λ j. f j + g j) w))
 
 pub over-scale : (a b : ℕ) (f : ℕ → ℕ) (x : ℕ) → a ≤ b → over a b (λ i. f i * x) ≡ over a b f * x

@@ -1,5 +1,5 @@
--- Worked tables: there is one and no other, and one that is worked anew up to row t after a change of train t alone is the
--- worked table of the changed line.
+-- Worked tables: there is one and no other, and one that is worked anew up to row t after a change of train t alone is
+-- the worked table of the changed line.
 -- Assumes nothing.
 use mathlib.Core.Path.{_≡_, refl, ap, sym, _∙_}
 use mathlib.Core.Logic.{_⊎_, inl, inr}
