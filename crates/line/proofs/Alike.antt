@@ -3,7 +3,7 @@
 -- Assumes nothing.
 use mathlib.Core.Path.{_≡_, refl, ap, sym, _∙_}
 use mathlib.Core.Logic.{_⊎_, inl, inr}
-use Prim.Native.Nat.{ℕ, _+_, _≤_, _<_}
+use Prim.Native.Nat.{ℕ, _+_, _-_, _≤_, _<_}
 use native.Mathlib.Nat.{le-refl, le-of-eq, eq-or-lt-of-le}
 use native.Mathlib.Omega.{arith}
 use Rattle.lists.proofs.Induction.{up}
@@ -17,7 +17,7 @@ use Rattle.line.proofs.Passengers.{leaving-over, aboard-over}
 use Rattle.line.proofs.Following.{departures-alike, arrivals-alike, run-alike-refl}
 use Rattle.line.proofs.Along.{late-start}
 use Rattle.line.proofs.Choices.{choice-none, choice-keep}
-use Rattle.line.proofs.Decided.{begins-next, first-run, begins-le}
+use Rattle.line.proofs.Decided.{begins-next, begins-first, begins-le}
 
 -- ---- alike from a later train on; and the sums of lines alike
 
@@ -129,20 +129,22 @@ module _ (A B : Book) (c d : Table) (alike : BooksAlike 1 A B)
       choice-alike k A B pos (books-alike-later 1 k A B pos alike) c d l a b
       (cells k (l + 1) pos (omega arith) (omega arith)) (λ u. cells l l (omega arith) (le-refl l) (omega arith))
 
-  begins-alike : (s : ℕ) → 1 ≤ s → s ≤ A .trains + 1 → begins (choice A c) s ≡ begins (choice B d) s
-  begins-alike s a b =
-      up (λ (j : ℕ). begins (choice A c) j ≡ begins (choice B d) j) 1 s a (first-run A c ∙ sym (first-run B d))
+  begins-alike : (i : ℕ) → 1 ≤ i → i ≤ A .trains → begins (choice A c) i ≡ begins (choice B d) i
+  begins-alike i a b =
+      up (λ (j : ℕ). begins (choice A c) j ≡ begins (choice B d) j) 1 i a
+      (begins-first (choice A c) ∙ sym (begins-first (choice B d)))
       (λ j u v e.
-      let in-line = begins-le B d j u in
+      let in-line = begins-le (choice B d) j u in
       begins-next (choice A c) j
-      ∙ ap (λ (k : ℕ). under (choice A c k j) k j) e
-      ∙ ap (λ (x : Decision). under x (begins (choice B d) j) j)
-      (choices-alike _ j (in-line .0) (in-line .1) (omega arith))
+      ∙ ap (λ (k : ℕ). under (choice A c k (j + 1)) k (j + 1)) e
+      ∙ ap (λ (x : Decision). under x (begins (choice B d) j) (j + 1))
+      (choices-alike _ (j + 1) (in-line .0) (omega arith) (omega arith))
       ∙ sym (begins-next (choice B d) j))
 
   -- the policies that are read off are alike on the trains in use
-  pub decide-alike : (s : ℕ) → 1 ≤ s → s ≤ A .trains → decide A c s ≡ decide B d s
+  pub decide-alike : (s : ℕ) → 2 ≤ s → s ≤ A .trains → decide A c s ≡ decide B d s
   unfolding decide follow
   decide-alike s a b =
-      let in-line = begins-le B d s a in
-      ap (λ (k : ℕ). choice A c k s) (begins-alike s a (omega arith)) ∙ choices-alike _ s (in-line .0) (in-line .1) b
+      let in-line = begins-le (choice B d) (s - 1) (omega arith) in
+      ap (λ (k : ℕ). choice A c k s) (begins-alike (s - 1) (omega arith) (omega arith))
+      ∙ choices-alike _ s (in-line .0) (omega arith) b

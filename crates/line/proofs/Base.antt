@@ -1,6 +1,6 @@
--- Document 01's own line: what its arrivals and its passengers count, and that its numbers are within their ranges.
+-- Document 01's own line: its slack, its arrivals, what its passengers count, its ranges, and which lines are alike.
 -- Assumes nothing.
-use mathlib.Core.Path.{_≡_, refl, ap, sym}
+use mathlib.Core.Path.{_≡_, refl, ap}
 use Prim.Native.Nat.{ℕ, _+_, _-_, _≤_, _<_}
 use native.Mathlib.Omega.{arith}
 use Rattle.lists.specs.Choice.{if_then_else_}
@@ -14,6 +14,12 @@ use Rattle.line.proofs.Following.{arrival-departed}
 module _ (m T : ℕ) (departs driving delay : ℕ → ℕ) (passengers : ℕ → ℕ → ℕ) where
   abbrev line : Line
   line = lineFrom m T departs driving delay passengers
+
+  -- The slack at station i, where it is 0 or more.
+  pub base-slack : (i : ℕ) → departs (i - 1) + driving (i - 1) ≤ departs i
+      → departs i ≡ departs (i - 1) + driving (i - 1) + line .running .slack i
+  unfolding lineFrom
+  base-slack i l = omega arith
 
   -- A train arrives with its departure delay plus its source delay.
   pub base-arrival : (p : Policy) (i : ℕ) → 1 ≤ i
@@ -38,17 +44,22 @@ module _ (m T : ℕ) (departs driving delay : ℕ → ℕ) (passengers : ℕ →
         passengers = many;
       }
 
-  -- another source delay of train t leaves the line alike after t
-  pub base-alike : (t : ℕ) (changed : ℕ → ℕ) → ((i : ℕ) → t < i → i ≤ m → changed i ≡ delay i)
-      → LinesAlike (t + 1) line (lineFrom m T departs driving changed passengers)
-  unfolding lineFrom
-  base-alike t changed same =
-      record {
-        trains = refl;
-        running = record {
-          slack = λ s a b. refl;
-          arrive = λ i x a b. ap (λ (y : ℕ). x + y) (sym (same i (omega arith) b));
-        };
-        period = λ s a b. refl;
-        passengers = λ i j a b c. refl;
-      }
+-- Lines whose numbers are the same from train k on are alike from there. After a report of train t they are from t + 1.
+pub base-alike : (k m T : ℕ) (departs departs′ driving driving′ delay delay′ : ℕ → ℕ) (n n′ : ℕ → ℕ → ℕ) → 1 ≤ k
+    → ((i : ℕ) → k ≤ i → i ≤ m → departs i ≡ departs′ i)
+    → ((i : ℕ) → k ≤ i → i ≤ m → driving i ≡ driving′ i)
+    → ((i : ℕ) → k ≤ i → i ≤ m → delay i ≡ delay′ i)
+    → ((i j : ℕ) → k ≤ i → i < j → j ≤ m + 1 → n i j ≡ n′ i j)
+    → LinesAlike k (lineFrom m T departs driving delay n) (lineFrom m T departs′ driving′ delay′ n′)
+unfolding lineFrom
+base-alike k m T departs departs′ driving driving′ delay delay′ n n′ pos e f g h =
+    record {
+      trains = refl;
+      running = record {
+        slack = λ s a b.
+            rw (e s (omega arith) b, e (s - 1) (omega arith) (omega arith), f (s - 1) (omega arith) (omega arith));
+        arrive = λ i x a b. ap (λ (y : ℕ). x + y) (g i a b);
+      };
+      period = λ s a b. refl;
+      passengers = h;
+    }

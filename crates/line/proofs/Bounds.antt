@@ -12,9 +12,11 @@ use Rattle.lists.proofs.Induction.{down, up}
 use Rattle.line.specs.Line.{Running, Line}
 use Rattle.line.specs.Policy.{Decision, Keep, Go, Policy, under, arrival, departure, missed, Day, dayOf, counts}
 use Rattle.line.specs.Policy.{total}
-use Rattle.line.specs.Cells.{Table, leaving, aboard, Book, bookOf, runFrom, reach, keepCost, Worked}
+use Rattle.line.specs.Cells.{Table, leaving, aboard, Book, bookOf, runFrom, reach, keepCost, goCost, Worked}
+use Rattle.line.specs.Alike.{BooksAlike}
+use Rattle.line.specs.Sum.{sum_from_to_}
 use Rattle.line.specs.Ranges.{RunInRange, LineInRange, InRange}
-use Rattle.line.proofs.Sums.{over, sum-over, over-first, over-none, over-split, over-scale, over-le}
+use Rattle.line.proofs.Sums.{over, sum-over, over-first, over-none, over-split, over-same, over-scale, over-le}
 use Rattle.line.proofs.Sums.{falls-within}
 use Rattle.line.proofs.Passengers.{counts-last, counts-next, pairs-over, leaving-over, aboard-over}
 use Rattle.line.proofs.Following.{arrival-departed, excess-next}
@@ -49,11 +51,31 @@ module _ (m : ℕ) (R : Running) (range : RunInRange m R) (p : Policy) where
 
 -- ---- cells
 
-module _ (B : Book) (range : InRange B) (k : ℕ) (pos : 1 ≤ k) where
-  pub reach-le : (l : ℕ) → l ≤ B .trains → reach (B .running) k l ≤ 92160
-  unfolding reach
-  reach-le l b = arrival-le (B .trains) (B .running) (range .running) (runFrom k) l b
+pub reach-le : (B : Book) → RunInRange (B .trains) (B .running) → (k l : ℕ) → l ≤ B .trains
+    → reach (B .running) k l ≤ 92160
+unfolding reach
+reach-le B run k l b = arrival-le (B .trains) (B .running) run (runFrom k) l b
 
+-- a worked cell is at most all who leave from l on, times the largest delay, whatever stands in the later rows
+pub row-le : (B : Book) → RunInRange (B .trains) (B .running) → (t : ℕ) (c d : Table) → Worked B t c d
+    → (k l : ℕ) → 1 ≤ k → k ≤ t → k ≤ l → l ≤ B .trains → d k l ≤ over l (B .trains + 1) (B .leaving k) * 92160
+row-le B run t c d W k l pos h a b =
+    omega (
+      arith,
+      W .last k,
+      falls-within l (B .trains + 1) cost (d k) (omega arith) (λ s u v. keep s (omega arith) (omega arith)),
+      over-le l (B .trains + 1) cost (λ s. B .leaving k s * 92160) (omega arith)
+          (λ s u v. mul-le-mul (le-refl (B .leaving k s)) (reach-le B run k s (omega arith))),
+      over-scale l (B .trains + 1) (B .leaving k) 92160 (omega arith),
+    )
+  where
+    cost : ℕ → ℕ
+    cost s = B .leaving k s * reach (B .running) k s
+
+    keep : (s : ℕ) → k ≤ s → s ≤ B .trains → d k s ≤ B .leaving k s * reach (B .running) k s + d k (s + 1)
+    keep s u v = le-trans (le-of-eq (W .anew k s pos h u v)) (unfold keepCost in worked-le-keep B d k s)
+
+module _ (B : Book) (range : InRange B) (k : ℕ) (pos : 1 ≤ k) where
   -- all who leave from l on
   leavers-le : (l : ℕ) → k ≤ l → l ≤ B .trains → over l (B .trains + 1) (B .leaving k) ≤ 20800000
   leavers-le l a b =
@@ -67,22 +89,45 @@ module _ (B : Book) (range : InRange B) (k : ℕ) (pos : 1 ≤ k) where
   pub leaving-le : (l : ℕ) → k ≤ l → l ≤ B .trains → B .leaving k l ≤ 20800000
   leaving-le l a b = omega (arith, leavers-le l a b, over-first l (B .trains + 1) (B .leaving k) (omega arith))
 
-  -- every worked cell, whatever stands in the later rows
-  pub cell-le : (t : ℕ) (c d : Table) → Worked B t c d → k ≤ t → (l : ℕ) → k ≤ l → l ≤ B .trains → d k l ≤ 1916928000000
-  cell-le t c d W h l a b =
-      omega (
-        arith,
-        W .last k,
-        falls-within l (B .trains + 1) (λ s. B .leaving k s * reach (B .running) k s) (d k) (omega arith)
-            (λ s u v. keep s (omega arith) (omega arith)),
-        over-le l (B .trains + 1) (λ s. B .leaving k s * reach (B .running) k s) (λ s. B .leaving k s * 92160)
-            (omega arith) (λ s u v. mul-le-mul (le-refl (B .leaving k s)) (reach-le s (omega arith))),
-        over-scale l (B .trains + 1) (B .leaving k) 92160 (omega arith),
-        leavers-le l a b,
-      )
-    where
-      keep : (s : ℕ) → k ≤ s → s ≤ B .trains → d k s ≤ B .leaving k s * reach (B .running) k s + d k (s + 1)
-      keep s u v = le-trans (le-of-eq (W .anew k s pos h u v)) (unfold keepCost in worked-le-keep B d k s)
+  -- every worked cell
+  pub cell-le : (t : ℕ) (c d : Table) → Worked B t c d → k ≤ t → (l : ℕ) → k ≤ l → l ≤ B .trains
+      → d k l ≤ 1916928000000
+  cell-le t c d W h l a b = omega (arith, row-le B (range .running) t c d W k l pos h a b, leavers-le l a b)
+
+  -- the two choices, over the cells on which they rest
+  pub keep-le : (c : Table) (l : ℕ) → k ≤ l → l ≤ B .trains → keepCost B c k l ≤ 1916928000000 + c k (l + 1)
+  unfolding keepCost
+  keep-le c l a b = omega (arith, mul-le-mul (leaving-le l a b) (reach-le B (range .running) k l b))
+
+  pub go-le : (c : Table) (l : ℕ) → k < l → l ≤ B .trains → goCost B c k l ≤ 29952000000 + c l l
+  unfolding goCost
+  go-le c l a b = omega (arith, mul-le-mul (range .period l (omega arith) b) (range .aboard k l pos a b))
+
+-- the ranges are asked of the trains in use alone
+pub range-alike : (A B : Book) → BooksAlike 1 A B → InRange A → InRange B
+range-alike A B alike range =
+    record {
+      running = record {
+        trains = le-trans (le-of-eq (sym (alike .trains))) (range .running .trains);
+        arrive = λ i x a b. same (alike .running .arrive i x a (within b)) (range .running .arrive i x a (within b));
+      };
+      period = λ s a b. same (alike .period s a (within b)) (range .period s a (within b));
+      leaving = λ k a b. same (leavers k a) (range .leaving k a (within b));
+      aboard = λ k l a b u. same (alike .aboard k l a b (within u)) (range .aboard k l a b (within u));
+    }
+  where
+    same : {x y most : ℕ} → x ≡ y → x ≤ most → y ≤ most
+    same e h = le-trans (le-of-eq (sym e)) h
+
+    within : {i : ℕ} → i ≤ B .trains → i ≤ A .trains
+    within b = le-trans b (le-of-eq (sym (alike .trains)))
+
+    leavers : (k : ℕ) → 1 ≤ k → sum (A .leaving k) from k to (A .trains) ≡ sum (B .leaving k) from k to (B .trains)
+    leavers k a =
+        sum-over (A .leaving k) k (A .trains)
+        ∙ over-same k (A .trains + 1) _ _ (λ l u v. alike .leaving k l a u (omega arith))
+        ∙ ap (λ (n : ℕ). over k (n + 1) (B .leaving k)) (alike .trains)
+        ∙ sym (sum-over (B .leaving k) k (B .trains))
 
 -- ---- the sums of a line, and its totals
 

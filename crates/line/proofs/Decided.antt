@@ -4,7 +4,7 @@
 use mathlib.Core.Path.{_≡_, refl, ap, sym, _∙_}
 use mathlib.Core.Logic.{_⊎_, inl, inr}
 use mathlib.Core.Bool.{true}
-use Prim.Native.Nat.{ℕ, suc, _+_, _≤_, _<_}
+use Prim.Native.Nat.{ℕ, zero, suc, _+_, _-_, _≤_, _<_}
 use native.Mathlib.Nat.{le-refl, le-of-eq, eq-or-lt-of-le}
 use native.Mathlib.Omega.{arith}
 use Rattle.lists.specs.Choice.{ifBelow}
@@ -12,11 +12,11 @@ use Rattle.lists.proofs.Choice.{below-yes, below-no}
 use Rattle.lists.proofs.Order.{lt-or-ge}
 use Rattle.lists.proofs.Induction.{up}
 use Rattle.line.specs.Line.{Running}
-use Rattle.line.specs.Policy.{Decision, Keep, Go, Policy, under, arrival, departure, missed, Day, dayOf}
+use Rattle.line.specs.Policy.{Decision, Keep, Go, Policy, under, arrival, excess, departure, missed, Day, dayOf}
 use Rattle.line.specs.Cells.{Table, Along, Book, reach, choice, begins, follow, decide}
 use Rattle.line.proofs.Following.{keep-or-go, keep-not-go, under-keep, under-go, first-on-time, go-departs}
 use Rattle.line.proofs.Following.{keep-maintains, go-misses}
-use Rattle.line.proofs.Starts.{startOf, start-le, start-missed, start-kept, start-second}
+use Rattle.line.proofs.Starts.{startOf, start-le, start-earlier, start-missed, start-kept, start-second}
 use Rattle.line.proofs.Along.{late-start, start-arrives, start-excess}
 use Rattle.line.proofs.Choices.{choice-none, choice-go}
 
@@ -33,15 +33,38 @@ goes-missed B c p k pos on-time s a go same =
 
 -- ---- rules
 
-pub begins-next : (rule : ℕ → ℕ → Decision) (s : ℕ)
-    → begins rule (s + 1) ≡ under (rule (begins rule s) s) (begins rule s) s
-unfolding begins
-begins-next rule s = let e : s + 1 ≡ suc s = omega arith in ap (begins rule) e
+module _ (rule : ℕ → ℕ → Decision) where
+  pub begins-next : (i : ℕ) → begins rule (i + 1) ≡ under (rule (begins rule i) (i + 1)) (begins rule i) (i + 1)
+  begins-next i = let e : i + 1 ≡ suc i = omega arith in rw e (unfold begins in refl)
 
--- The rule lets train k depart with delay 0, keeps its run up to station l, and from there on does what the cells say.
+  pub follow-next : (i : ℕ) → follow rule (i + 1) ≡ rule (begins rule i) (i + 1)
+  unfolding follow
+  follow-next i = let e : i + 1 - 1 ≡ i = omega arith in ap (λ (j : ℕ). rule (begins rule j) (i + 1)) e
+
+  -- The first run begins with train 1.
+  pub begins-first : begins rule 1 ≡ 1
+  unfolding begins
+  begins-first = either (rule 1 1)
+    where
+      either : (b : Decision) → _≡_ {A = ℕ} (under b 1 1) 1
+      either Keep = refl
+      either Go = refl
+
+  -- a run begins with one of its trains or before
+  pub begins-le : (i : ℕ) → 1 ≤ i → (1 ≤ begins rule i) × (begins rule i ≤ i)
+  begins-le i a =
+      up (λ (j : ℕ). (1 ≤ begins rule j) × (begins rule j ≤ j)) 1 i a
+      (le-of-eq (sym begins-first), le-of-eq begins-first)
+      (λ j u v h. elim (keep-or-go (rule (begins rule j) (j + 1))) [
+        | inl keep ↦ let e = begins-next j ∙ under-keep _ _ keep in omega arith
+        | inr go ↦ let e = begins-next j ∙ under-go _ _ go in omega arith
+      ])
+
+-- The rule lets train k depart with delay 0 and begin a run, keeps that run up to station l, and from there on does
+-- what the cells say.
 pub record Obeys (B : Book) (c : Table) (k l : ℕ) (rule : ℕ → ℕ → Decision) : Type 0 where
   pub on-time : departure (B .running) (follow rule) k ≡ 0
-  pub second : begins rule (k + 1) ≡ k
+  pub first : begins rule k ≡ k
   pub before : (j s : ℕ) → k < s → s < l → rule j s ≡ Keep
   pub after : (j s : ℕ) → k < s → l ≤ s → rule j s ≡ choice B c j s
 
@@ -58,55 +81,50 @@ module _ (B : Book) (c : Table) (k l : ℕ) (rule : ℕ → ℕ → Decision) (p
   pub obeys-along : Along R p k l
   unfolding follow
   obeys-along =
-      record {
-        on-time = obeys .on-time;
-        maintained = λ s u v. keep-maintains R p s (obeys .before (begins rule s) s u v);
-      }
+      record { on-time = obeys .on-time; maintained = λ s u v. keep-maintains R p s (obeys .before _ s u v) }
 
-  -- the runs of the rule are those of its policy
-  pub begins-start : (s : ℕ) → k < s → begins rule s ≡ startOf D k s
-  unfolding follow
-  begins-start s u =
-      up (λ (j : ℕ). begins rule j ≡ startOf D k j) (k + 1) s (omega arith) (obeys .second ∙ sym (start-second D k))
-      (λ j v w e. begins-next rule j ∙ (elim (keep-or-go (rule (begins rule j) j)) [
-        | inl keep ↦ under-keep _ _ keep ∙ e
-            ∙ sym (start-kept D k j (keep-maintains R p j keep))
-        | inr go ↦ under-go _ _ go
-            ∙ sym (start-missed D k j (omega arith) (gone j (omega arith) e go))
+  -- a go of the rule is a miss, on runs that are its policy's
+  gone : (s : ℕ) → k < s → (j : ℕ) → j ≡ startOf D k s → rule j s ≡ Go → p s ≡ Go → missed R p s ≡ true
+  gone s a j e go same = elim (lt-or-ge s l) [
+    | inl x ↦ keep-not-go (sym (obeys .before j s a x) ∙ go)
+    | inr x ↦
+        let chosen = ap (λ (i : ℕ). choice B c i s) (sym e) ∙ sym (obeys .after j s a x) ∙ go in
+        goes-missed B c p k pos (obeys .on-time) s (omega arith) chosen same
+  ]
+
+  -- the run of train i under the rule is that of its policy, which reaches station i + 1
+  pub begins-start : (i : ℕ) → k ≤ i → begins rule i ≡ startOf D k (i + 1)
+  begins-start i u =
+      up (λ (j : ℕ). begins rule j ≡ startOf D k (j + 1)) k i u (obeys .first ∙ sym (start-second D k))
+      (λ j v w e. begins-next rule j ∙ (elim (keep-or-go (rule (begins rule j) (j + 1))) [
+        | inl keep ↦
+            under-keep _ _ keep ∙ e
+            ∙ sym (start-kept D k (j + 1) (keep-maintains R p (j + 1) (follow-next rule j ∙ keep)))
+        | inr go ↦
+            let missed = gone (j + 1) (omega arith) (begins rule j) e go (follow-next rule j ∙ go) in
+            under-go _ _ go ∙ sym (start-missed D k (j + 1) (omega arith) missed)
       ]))
-    where
-      gone : (j : ℕ) → k < j → begins rule j ≡ startOf D k j → rule (begins rule j) j ≡ Go → missed R p j ≡ true
-      gone j a e go = elim (lt-or-ge j l) [
-        | inl x ↦ keep-not-go (sym (obeys .before (begins rule j) j a x) ∙ go)
-        | inr x ↦ goes-missed B c p k pos (obeys .on-time) j (omega arith)
-            (ap (λ (i : ℕ). choice B c i j) (sym e) ∙ sym (obeys .after (begins rule j) j a x) ∙ go) go
-      ]
 
   -- so the policy does what the cells say on its own runs
   pub obeys-does : (s : ℕ) → k < s → l ≤ s → p s ≡ choice B c (startOf D k s) s
   unfolding follow
-  obeys-does s u v = obeys .after (begins rule s) s u v ∙ ap (λ (i : ℕ). choice B c i s) (begins-start s u)
+  obeys-does s u v =
+      let here : s - 1 + 1 ≡ s = omega arith in
+      obeys .after (begins rule (s - 1)) s u v
+      ∙ ap (λ (j : ℕ). choice B c j s) (begins-start (s - 1) (omega arith) ∙ ap (startOf D k) here)
 
 -- ---- the two rules that are followed
 
 module _ (B : Book) (c : Table) where
   -- what the cells say, from train 1 on
-  pub first-run : begins (choice B c) 1 ≡ 1
-  unfolding begins
-  first-run = rw (choice-none B c 1 0 (late-start (B .running) 1 0 (omega arith)))
-
   pub cells-obey : Obeys B c 1 1 (choice B c)
   cells-obey =
       record {
         on-time = first-on-time (B .running) (follow (choice B c));
-        second = begins-next (choice B c) 1 ∙ rw first-run (either (choice B c 1 1));
+        first = begins-first (choice B c);
         before = λ j s u v. absurd (omega arith);
         after = λ j s u v. refl;
       }
-    where
-      either : (b : Decision) → _≡_ {A = ℕ} (under b 1 1) 1
-      either Keep = refl
-      either Go = refl
 
   -- go up to train k, keep up to station l, and then what the cells say
   pub fromCell : ℕ → ℕ → ℕ → ℕ → Decision
@@ -116,34 +134,40 @@ module _ (B : Book) (c : Table) where
   unfolding fromCell
   goes-at k l j = below-no _ _ (le-refl k)
 
-  pub from-cell-obeys : (k l : ℕ) → Obeys B c k l (fromCell k l)
+  begins-at : (k l : ℕ) → 1 ≤ k → begins (fromCell k l) k ≡ k
+  begins-at zero l pos = absurd (omega arith)
+  begins-at (suc k) l pos = unfold begins in under-go _ _ (goes-at (suc k) l _)
+
+  pub from-cell-obeys : (k l : ℕ) → 1 ≤ k → Obeys B c k l (fromCell k l)
   unfolding fromCell
-  from-cell-obeys k l =
+  from-cell-obeys k l pos =
       record {
         on-time = go-departs (B .running) (follow (fromCell k l)) k (unfold follow in goes-at k l _);
-        second = begins-next (fromCell k l) k ∙ under-go _ _ (goes-at k l _);
+        first = begins-at k l pos;
         before = λ j s u v. below-yes _ _ u ∙ below-yes _ _ v;
         after = λ j s u v. below-yes _ _ u ∙ below-no _ _ v;
       }
 
--- ---- delays read off
+-- ---- what is read off any cells
 
 module _ (B : Book) (c : Table) where
-  -- the run that reaches station s begins before it
-  pub begins-le : (s : ℕ) → 1 ≤ s → (1 ≤ begins (choice B c) s) × (begins (choice B c) s ≤ s)
-  begins-le s a =
-      up (λ (j : ℕ). (1 ≤ begins (choice B c) j) × (begins (choice B c) j ≤ j)) 1 s a
-      (le-of-eq (sym (first-run B c)), le-of-eq (first-run B c))
-      (λ j u v h. elim (keep-or-go (choice B c (begins (choice B c) j) j)) [
-        | inl keep ↦ let e = begins-next (choice B c) j ∙ under-keep _ _ keep in omega arith
-        | inr go ↦ let e = begins-next (choice B c) j ∙ under-go _ _ go in omega arith
-      ])
+  abbrev decided : Policy
+  decided = decide B c
 
-  -- train s arrives as on the run that it is on, which reaches station s + 1
-  pub decided-arrives : (s : ℕ) → 1 ≤ s
-      → arrival (B .running) (decide B c) s ≡ reach (B .running) (begins (choice B c) (s + 1)) s
+  -- each train arrives as on the run that it is on,
+  pub decided-arrives : (i : ℕ) → 1 ≤ i
+      → arrival (B .running) decided i ≡ reach (B .running) (begins (choice B c) i) i
   unfolding decide
-  decided-arrives s a =
-      start-arrives (B .running) (follow (choice B c)) 1 (omega arith) (cells-obey B c .on-time) s a
-      ∙ ap (λ (j : ℕ). reach (B .running) j s)
-      (sym (begins-start B c 1 1 (choice B c) (omega arith) (cells-obey B c) (s + 1) (omega arith)))
+  decided-arrives i a =
+      start-arrives (B .running) decided 1 (omega arith) (cells-obey B c .on-time) i a
+      ∙ ap (λ (j : ℕ). reach (B .running) j i)
+      (sym (begins-start B c 1 1 (choice B c) (omega arith) (cells-obey B c) i a))
+
+  -- and a station with excess 0 shows keep
+  pub decided-shows-keep : (s : ℕ) → 2 ≤ s → excess (B .running) decided s ≡ 0 → decided s ≡ Keep
+  unfolding decide
+  decided-shows-keep s a none =
+      let run = cells-obey B c in
+      let late = start-excess (B .running) decided 1 (omega arith) (run .on-time) s (omega arith)
+      (start-earlier _ 1 s a) in
+      obeys-does B c 1 1 (choice B c) (omega arith) run s a (omega arith) ∙ choice-none B c _ s (sym late ∙ none)

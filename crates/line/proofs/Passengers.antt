@@ -14,7 +14,7 @@ use Rattle.line.specs.Policy.{Day, atFirstMissed, dropped, counts, pairs
 use Rattle.line.specs.Sum.{sum_from_to_}
 use Rattle.line.specs.Alike.{LinesAlike}
 use Rattle.line.specs.Cells.{leaving, aboard}
-use Rattle.line.proofs.Sums.{over, sum-over, sum-below, over-same}
+use Rattle.line.proofs.Sums.{over, sum-over, sum-below, over-split, over-same}
 
 -- no transfer at a station strictly between i and j is missed
 abbrev pub Clear : Day → ℕ → ℕ → Type 0
@@ -134,6 +134,16 @@ pub aboard-over : (L : Line) (k l : ℕ) → 1 ≤ l
     → aboard L k l ≡ over l (L .trains + 1) (λ t. over k l (λ i. L .passengers i (t + 1)))
 unfolding aboard
 aboard-over L k l pos = sum-over _ l (L .trains) ∙ over-same l (L .trains + 1) _ _ (λ t a b. sum-below _ k l pos)
+
+-- those aboard at l, by those who leave: having boarded at k or later, less those who boarded at l or later
+pub aboard-leaving : (L : Line) (k l : ℕ) → 1 ≤ l → k ≤ l
+    → aboard L k l ≡ over l (L .trains + 1) (λ t. leaving L k t - leaving L l t)
+aboard-leaving L k l pos a =
+    aboard-over L k l pos
+    ∙ over-same l (L .trains + 1) _ _
+    (λ t u v.
+    let parted = over-split k l (t + 1) (λ i. L .passengers i (t + 1)) a (omega arith) in
+    omega (arith, parted, leaving-over L k t, leaving-over L l t))
 
 -- ---- what is read
 

@@ -1,9 +1,10 @@
--- Laws of the plan by its definition alone: two plans agree on trains 2 to m, and a station with excess 0 shows keep.
+-- Laws of the plan by its definition alone: two plans agree on trains 2 to m, nothing else of them is read, and a
+-- station with excess 0 shows keep.
 -- Assumes nothing.
 use mathlib.Core.Path.{_≡_, refl, sym, subst, _∙_}
 use mathlib.Core.Logic.{_⊎_, inl, inr}
 use Prim.Native.Nat.{ℕ, _+_, _≤_, _<_}
-use native.Mathlib.Nat.{le-antisymm, eq-or-lt-of-le}
+use native.Mathlib.Nat.{le-trans, le-of-eq, le-antisymm, eq-or-lt-of-le}
 use native.Mathlib.Omega.{arith}
 use Rattle.lists.specs.Choice.{ifSame}
 use Rattle.lists.proofs.Choice.{same-yes, same-no}
@@ -12,10 +13,11 @@ use Rattle.lists.proofs.Induction.{up}
 use Rattle.line.specs.Line.{Running, Line}
 use Rattle.line.specs.Policy.{Keep, Go, Policy, excess, departure, missed, dayOf, total}
 use Rattle.line.specs.Plan.{FirstDifference, IsPlan}
+use Rattle.line.specs.Alike.{LinesAlike}
 use Rattle.line.proofs.Passengers.{DaysAlike, pairs-alike}
 use Rattle.line.proofs.Following.{keep-or-go, keep-not-go, first-on-time, keep-departs, keep-maintains}
 use Rattle.line.proofs.Following.{no-excess-maintains, maintained-departs}
-use Rattle.line.proofs.Following.{days-alike, run-alike-refl, lines-alike-refl}
+use Rattle.line.proofs.Following.{days-alike, run-alike-refl, lines-alike-refl, same-total}
 
 -- ---- the plan is one
 
@@ -57,6 +59,30 @@ module _ (L : Line) (p q : Policy) (P : IsPlan L p) (Q : IsPlan L q) where
         | inr w ↦ same i u (omega arith)
       ])
       t a (omega arith)
+
+-- a plan is read on trains 2 to m alone, of its line and of itself
+pub plan-alike : (L M : Line) (p q : Policy) → LinesAlike 1 L M → ((i : ℕ) → 2 ≤ i → i ≤ L .trains → p i ≡ q i)
+    → IsPlan L p → IsPlan M q
+plan-alike L M p q lines same P =
+    record {
+      least = λ r. le-trans (le-of-eq (sym here)) (le-trans (P .least r) (le-of-eq (other r)));
+      tie = λ r e t first.
+          let m : t ≤ L .trains = omega (arith, first .in-line, lines .trains) in
+          sym (same t (first .from-two) m)
+          ∙ P .tie r (other r ∙ e ∙ sym here) t
+          (record {
+            from-two = first .from-two;
+            in-line = m;
+            alike = λ i a b. same i a (omega arith) ∙ first .alike i a b;
+            differ = λ f. first .differ (sym (same t (first .from-two) m) ∙ f);
+          });
+    }
+  where
+    here : total L p ≡ total M q
+    here = same-total L M p q lines same
+
+    other : (r : Policy) → total L r ≡ total M r
+    other r = same-total L M r r lines (λ i a b. refl)
 
 -- ---- a station with excess 0 shows keep
 

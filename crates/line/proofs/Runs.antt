@@ -13,7 +13,7 @@ use Rattle.lists.specs.Choice.{if_then_else_}
 use Rattle.lists.proofs.Choice.{if-yes, if-no, true-or-false}
 use Rattle.line.specs.Sum.{sum_from_to_}
 use Rattle.line.specs.Line.{Line}
-use Rattle.line.specs.Policy.{Day, counts, pairsTotal}
+use Rattle.line.specs.Policy.{Policy, Day, dayOf, counts, pairsTotal, total}
 use Rattle.line.specs.Cells.{leaving, aboard}
 use Rattle.line.proofs.Sums.{over, sum-over, over-none, over-first, over-split, over-same, over-add}
 use Rattle.line.proofs.Sums.{over-scale, over-times, falls-equal}
@@ -98,3 +98,10 @@ module _ (L : Line) (D : Day) where
         (pairs-over L D _ (L .trains + 1) ∙ over-none _ _ _ (le-refl (L .trains + 1)))
         ∙ add-zero _
         ∙ sym (sum-over (runCost L D k) l (L .trains))
+
+-- The total of a policy is its cost run by run.
+pub policy-by-runs : (L : Line) (p : Policy)
+    → total L p ≡ sum (runCost L (dayOf (L .running) p) 1) from 1 to (L .trains)
+unfolding total
+policy-by-runs L p =
+    total-by-runs L (dayOf (L .running) p) 1 (le-refl 1) 1 (le-refl 1) (omega arith) (λ s a b. absurd (omega arith))

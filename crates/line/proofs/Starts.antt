@@ -5,7 +5,7 @@
 use mathlib.Core.Path.{_≡_, ap, sym, _∙_}
 use mathlib.Core.Bool.{Bool, true, false, true≢false}
 use mathlib.Core.Logic.{_⊎_, inl, inr}
-use Prim.Native.Nat.{ℕ, zero, suc, _+_, _≤_, _<_, max}
+use Prim.Native.Nat.{ℕ, zero, suc, _+_, _-_, _≤_, _<_, max}
 use native.Mathlib.Nat.{le-refl, eq-or-lt-of-le}
 use native.Mathlib.Omega.{arith}
 use Rattle.lists.specs.Choice.{if_then_else_}
@@ -65,6 +65,12 @@ module _ (D : Day) (k : ℕ) where
     | inl m ↦ omega (arith, start-missed s l m)
     | inr m ↦ omega (arith, start-kept s m, start-le s l)
   ]
+
+  pub start-earlier : (s : ℕ) → k < s → startOf D k s < s
+  start-earlier s l =
+      let here : s - 1 + 1 ≡ s = omega arith in
+      let before = rw here at (start-before (s - 1) (omega arith)) in
+      omega arith
 
   -- nothing is missed on the run that reaches s
   pub start-clear : (s : ℕ) → k ≤ s → Clear D (startOf D k s) s

@@ -137,3 +137,13 @@ module _ (B : Book) (t : ℕ) (c : Table) where
         anew = λ k l pos u a b. table-next k l b ∙ below-no _ _ u ∙ rw (begin-is l b);
         stand = λ k l u a b. table-next k l b ∙ below-yes _ _ u;
       }
+
+-- ---- rows after t do not read trains up to t
+
+pub rows-alike : (t : ℕ) (A B : Book) (b₁ b₂ c d : Table) → BooksAlike (t + 1) A B → Worked A (A .trains) b₁ c
+    → Worked B (B .trains) b₂ d → (k l : ℕ) → t < k → k ≤ l → l ≤ B .trains → d k l ≡ c k l
+rows-alike t A B b₁ b₂ c d alike old new k l u a v =
+    let again = worked-exists B t c in
+    worked-one B (B .trains) b₂ b₂ d _ new (reworked t A B b₁ c _ alike old again b₂) (λ i j x y z. refl)
+    k l (omega arith) a (omega arith)
+    ∙ again .stand k l u a v

@@ -37,7 +37,7 @@ module _ (L : Line) (c d : Table) (W : Worked (bookOf L) (L .trains) c d) where
 
   pub cell-means : (k l : ℕ) → 1 ≤ k → k ≤ l → l ≤ L .trains + 1 → IsCell L k l (d k l)
   cell-means k l pos a b =
-      let obeys = from-cell-obeys B d k l in
+      let obeys = from-cell-obeys B d k l pos in
       record {
         policy = follow (fromCell B d k l);
         along = obeys-along B d k l _ pos obeys;

@@ -106,14 +106,15 @@ prefer (suc e) keep go = ifBelow go keep Go Keep
 unfoldable pub choice : Book → Table → ℕ → ℕ → Decision
 choice B c k l = prefer (late (B .running) k l) (keepCost B c k l) (goCost B c k l)
 
--- The train with which the run begins that reaches station s, where `rule k s` decides at station s on the run from k.
--- The first run begins with train 1.
+-- The train with which the run begins that train i is on, where `rule k s` decides at station s on the run from k. The
+-- first run begins with train 1.
 unfoldable pub begins : (ℕ → ℕ → Decision) → ℕ → ℕ
 begins rule zero = 1
-begins rule (suc s) = under (rule (begins rule s) s) (begins rule s) s
+begins rule (suc i) = under (rule (begins rule i) (suc i)) (begins rule i) (suc i)
 
+-- at station s the run is decided that train s - 1 is on
 unfoldable pub follow : (ℕ → ℕ → Decision) → Policy
-follow rule s = rule (begins rule s) s
+follow rule s = rule (begins rule (s - 1)) s
 
 -- Decisions follow by comparing the two choices in the cells, and delays by following them: arrival R (decide B c).
 unfoldable pub decide : Book → Table → Policy

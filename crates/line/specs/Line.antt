@@ -3,8 +3,8 @@
 -- are whole minutes, passengers whole persons.
 --   Running                how the trains of a line run
 --   Line                   the trains, how they run, what a missed connection costs, and the passengers
---   lineFrom m T d r y n   the line of document 01: m trains, period T, departures d, driving times r, source delays y,
---                          passengers n
+--   lineFrom m T d r y n   the line of document 01: m trains, period T, planned departures d, driving times r, source
+--                          delays y, passengers n
 -- Assumes nothing.
 use Prim.Native.Nat.{ℕ, _+_, _-_}
 
@@ -23,14 +23,15 @@ pub record Line : Type 0 where
   pub passengers : ℕ → ℕ → ℕ
 
 -- The slack at station i is the departure of train i, less the departure of train i - 1, less the driving time of train
--- i - 1. A train arrives with its departure delay plus its source delay. A missed connection delays by the period T.
+-- i - 1. (It must be 0 or more: on a sheet where it would be negative, and here 0, nothing is planned.) A train arrives
+-- with its departure delay plus its source delay. A missed connection delays by the period T.
 unfoldable pub lineFrom : ℕ → ℕ → (ℕ → ℕ) → (ℕ → ℕ) → (ℕ → ℕ) → (ℕ → ℕ → ℕ) → Line
-lineFrom m T departure driving delay passengers =
+lineFrom m T departs driving delay passengers =
     record {
       trains = m;
       running = record {
-        slack = λ i. departure i - departure (i - 1) - driving (i - 1);
-        arrive = λ i late. late + delay i;
+        slack = λ i. departs i - departs (i - 1) - driving (i - 1);
+        arrive = λ i x. x + delay i;
       };
       period = λ s. T;
       passengers = passengers;

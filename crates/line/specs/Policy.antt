@@ -1,5 +1,5 @@
 -- What comes of a policy. Document 01, "Following a policy", as far as the total.
---   Policy                keep or go, for each train; train 1 has no decision and that of its policy is never used
+--   Policy                keep or go, for each train from 2 to m; what it says elsewhere makes no difference
 --   arrival R p i         how late train i arrives under the policy p
 --   excess R p s          what is left of the arrival delay of train s - 1 once the slack at station s is used up
 --   departure R p i       how late train i departs
@@ -29,8 +29,8 @@ abbrev pub under : {A : Type 0} → Decision → A → A → A
 under Keep x y = x
 under Go x y = y
 
--- Under keep, train i departs late by exactly the excess; under go, with delay 0. No train comes before train 1: it
--- finds no excess and departs with delay 0 by this rule too.
+-- A train arrives by its departure delay, which is the excess under keep and 0 under go. No train comes before train 1:
+-- it finds no excess and departs with delay 0 by this rule too.
 unfoldable pub arrival : Running → Policy → ℕ → ℕ
 arrival R p zero = 0
 arrival R p (suc i) = R .arrive (suc i) (under (p (suc i)) (arrival R p i - R .slack (suc i)) 0)
@@ -39,6 +39,7 @@ arrival R p (suc i) = R .arrive (suc i) (under (p (suc i)) (arrival R p i - R .s
 unfoldable pub excess : Running → Policy → ℕ → ℕ
 excess R p s = arrival R p (s - 1) - R .slack s
 
+-- Under keep, train i departs late by exactly the excess. Under go, it departs with delay 0.
 unfoldable pub departure : Running → Policy → ℕ → ℕ
 departure R p i = under (p i) (excess R p i) 0
 
