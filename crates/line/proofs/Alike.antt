@@ -14,7 +14,7 @@ use Rattle.line.specs.Cells.{choice, begins, follow, decide}
 use Rattle.line.specs.Alike.{LinesAlike, BooksAlike}
 use Rattle.line.proofs.Sums.{over, over-same}
 use Rattle.line.proofs.Passengers.{leaving-over, aboard-over}
-use Rattle.line.proofs.Following.{departures-alike, arrivals-alike, run-alike-refl}
+use Rattle.line.proofs.Days.{departures-alike, arrivals-alike, run-alike-refl}
 use Rattle.line.proofs.Along.{late-start}
 use Rattle.line.proofs.Choices.{choice-none, choice-keep}
 use Rattle.line.proofs.Decided.{begins-next, begins-first, begins-le}

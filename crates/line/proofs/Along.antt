@@ -12,7 +12,7 @@ use Rattle.line.specs.Policy.{Keep, Go, Policy, arrival, excess, departu
 use Rattle.line.specs.Cells.{Along, runFrom, late, reach}
 use Rattle.line.proofs.Following.{arrival-departed, excess-next, keep-departs, go-departs, missed-goes}
 use Rattle.line.proofs.Following.{maintained-departs}
-use Rattle.line.proofs.Following.{arrivals-alike, excesses-alike, run-alike-refl}
+use Rattle.line.proofs.Days.{arrivals-alike, excesses-alike, run-alike-refl}
 use Rattle.line.proofs.Starts.{startOf, start-le, start-first, start-missed, start-kept, start-before}
 use Rattle.line.proofs.Starts.{start-clear}
 

@@ -1,6 +1,7 @@
 pub mod Sums
 pub mod Passengers
 pub mod Following
+pub mod Days
 pub mod Starts
 pub mod Runs
 pub mod Along

@@ -1,18 +1,17 @@
--- What passengers count: who is dropped and who is not, and what of a day and a line they are read from.
+-- What passengers count: who is dropped and who is not; and the sums of passengers.
 -- Assumes nothing.
-use mathlib.Core.Path.{_≡_, refl, ap, ap₂, sym, subst, _∙_}
+use mathlib.Core.Path.{_≡_, refl, ap, sym, subst, _∙_}
 use mathlib.Core.Bool.{Bool, true, false}
 use Prim.Native.Nat.{ℕ, _+_, _-_, _*_, _≤_, _<_}
 use native.Mathlib.Omega.{arith}
 use Rattle.lists.specs.Choice.{if_then_else_}
 use Rattle.lists.specs.Run.{runOf}
-use Rattle.lists.proofs.Choice.{if-yes, if-no, if-same}
+use Rattle.lists.proofs.Choice.{if-yes, if-no}
 use Rattle.lists.proofs.Run.{run-next, run-none}
 use Rattle.lists.proofs.Induction.{down}
 use Rattle.line.specs.Line.{Line}
 use Rattle.line.specs.Policy.{Day, atFirstMissed, dropped, counts, pairsTotal}
 use Rattle.line.specs.Sum.{sum_from_to_}
-use Rattle.line.specs.Alike.{LinesAlike}
 use Rattle.line.specs.Cells.{leaving, aboard}
 use Rattle.line.proofs.Sums.{over, sum-over, sum-below, over-split, over-same}
 
@@ -144,32 +143,3 @@ aboard-leaving L k l pos a =
     (λ t u v.
     let parted = over-split k l (t + 1) (λ i. L .passengers i (t + 1)) a (omega arith) in
     omega (arith, parted, leaving-over L k t, leaving-over L l t))
-
--- ---- what is read
-
-pub record DaysAlike (k m : ℕ) (D E : Day) : Type 0 where
-  pub arrival : (i : ℕ) → k ≤ i → i ≤ m → D .arrival i ≡ E .arrival i
-  pub missed : (s : ℕ) → k < s → s ≤ m → D .missed s ≡ E .missed s
-
-module _ (k : ℕ) (L M : Line) (D E : Day) (lines : LinesAlike k L M) (days : DaysAlike k (L .trains) D E) where
-  counts-alike : (i t : ℕ) → k ≤ i → i ≤ t → t ≤ L .trains → counts L D i (t + 1) ≡ counts M E i (t + 1)
-  counts-alike i t a b u =
-      down (λ (h : ℕ). counts L D h (t + 1) ≡ counts M E h (t + 1)) i t b
-      (counts-last L D t ∙ days .arrival t (omega arith) u ∙ sym (counts-last M E t))
-      (λ h c d e.
-      counts-next L D h t d
-      ∙ if-same (days .missed (h + 1) (omega arith) (omega arith)) (lines .period (h + 1) (omega arith) (omega arith)) e
-      ∙ sym (counts-next M E h t d))
-
-  -- those who board at k or later: trains k to m alone
-  pub pairs-alike : (l : ℕ) → k ≤ l → pairsTotal L D k l ≡ pairsTotal M E k l
-  pairs-alike l a =
-      pairs-over L D k l
-      ∙ over-same l (L .trains + 1) _ _
-      (λ t b c. over-same k (t + 1) _ _
-      (λ i d e.
-      ap₂ _*_ (lines .passengers i (t + 1) d e (omega arith)) (counts-alike i t d (omega arith) (omega arith))))
-      ∙ ap
-      (λ (m : ℕ). over l (m + 1) (λ t. over k (t + 1) (λ i. M .passengers i (t + 1) * counts M E i (t + 1))))
-      (lines .trains)
-      ∙ sym (pairs-over M E k l)

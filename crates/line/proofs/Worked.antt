@@ -9,7 +9,8 @@ use Rattle.line.specs.Line.{Running, Line}
 use Rattle.line.specs.Policy.{Decision, Keep, Policy, dayOf, pairsTotal, total}
 use Rattle.line.specs.Plan.{FirstDifference, IsPlan}
 use Rattle.line.specs.Cells.{Table, Along, IsCell, Book, bookOf, Worked, choice, follow, decide}
-use Rattle.line.proofs.Following.{keep-or-go, first-on-time, policies-alike, run-alike-refl}
+use Rattle.line.proofs.Following.{keep-or-go, first-on-time}
+use Rattle.line.proofs.Days.{policies-alike, run-alike-refl}
 use Rattle.line.proofs.Starts.{startOf, start-alike}
 use Rattle.line.proofs.Decided.{Obeys, obeys-along, obeys-does, cells-obey, fromCell, from-cell-obeys}
 use Rattle.line.proofs.Least.{least-of-all, follows-attains, keeps-as-cells}
