@@ -16,7 +16,7 @@ use Rattle.line.proofs.Sums.{over, sum-over, over-none, over-zero, fall
 use Rattle.line.proofs.Passengers.{aboard-over}
 use Rattle.line.proofs.Following.{keep-or-go, keep-maintains, missed-late}
 use Rattle.line.proofs.Starts.{startOf, start-le, start-first, start-missed, start-kept, start-through}
-use Rattle.line.proofs.Runs.{runCost, total-by-runs}
+use Rattle.line.proofs.Runs.{runCost, pairs-by-runs}
 use Rattle.line.proofs.Along.{start-arrives, start-excess}
 use Rattle.line.proofs.Choices.{worked-le-keep, worked-le-go, choice-keep, choice-go, cell-start}
 use Rattle.line.proofs.Decided.{goes-missed}
@@ -121,7 +121,7 @@ module _ (L : Line) (c d : Table) (W : Worked (bookOf L) (L .trains) c d) where
     last-cell = W .last _
 
     by-runs : pairsTotal L day k l ≡ over l (L .trains + 1) (runCost L day k)
-    by-runs = total-by-runs L day k pos l a b (on .maintained) ∙ sum-over (runCost L day k) l (L .trains)
+    by-runs = pairs-by-runs L day k pos l a b (on .maintained) ∙ sum-over (runCost L day k) l (L .trains)
 
     falls-here : (s : ℕ) → l ≤ s → s < L .trains + 1 → cell s ≤ runCost L day k s + cell (s + 1)
     falls-here s u v = falls p k pos (on .on-time) s (omega arith) (omega arith)

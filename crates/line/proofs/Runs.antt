@@ -88,9 +88,9 @@ module _ (L : Line) (D : Day) where
 
     -- The total of those who board at k or later and leave after l, nothing being missed between k and l, is their cost
     -- run by run.
-    pub total-by-runs : (l : ℕ) → k ≤ l → l ≤ L .trains + 1 → Clear D k l
+    pub pairs-by-runs : (l : ℕ) → k ≤ l → l ≤ L .trains + 1 → Clear D k l
         → pairsTotal L D k l ≡ sum (runCost L D k) from l to (L .trains)
-    total-by-runs l a b clear =
+    pairs-by-runs l a b clear =
         ap (λ (j : ℕ). pairsTotal L D j l) (sym (start-through D k l a clear))
         ∙ falls-equal l (L .trains + 1) (runCost L D k) (λ s. pairsTotal L D (startOf D k s) s) b
         (λ s c d. pairs-next s (omega arith) (omega arith))
@@ -100,8 +100,8 @@ module _ (L : Line) (D : Day) where
         ∙ sym (sum-over (runCost L D k) l (L .trains))
 
 -- The total of a policy is its cost run by run.
-pub policy-by-runs : (L : Line) (p : Policy)
+pub total-by-runs : (L : Line) (p : Policy)
     → total L p ≡ sum (runCost L (dayOf (L .running) p) 1) from 1 to (L .trains)
 unfolding total
-policy-by-runs L p =
-    total-by-runs L (dayOf (L .running) p) 1 (le-refl 1) 1 (le-refl 1) (omega arith) (λ s a b. absurd (omega arith))
+total-by-runs L p =
+    pairs-by-runs L (dayOf (L .running) p) 1 (le-refl 1) 1 (le-refl 1) (omega arith) (λ s a b. absurd (omega arith))

@@ -75,8 +75,8 @@ module _ (t : ℕ) (A B : Book) (b c d : Table) (alike : BooksAlike (t + 1) A B)
       ∙ worked-alike k A B pos (books-alike-later (t + 1) k A B (omega arith) alike) c d l a v′
       (next-stands k l u a v) (λ w. sym (new .stand l l (omega arith) (le-refl l) v))
 
-  pub reworked : (x : Table) → Worked B (B .trains) x d
-  reworked x =
+  pub reworked-is-worked : (x : Table) → Worked B (B .trains) x d
+  reworked-is-worked x =
       record {
         last = new .last;
         anew = λ k l pos u a v. elim (lt-or-ge t k) [
@@ -144,6 +144,6 @@ pub rows-alike : (t : ℕ) (A B : Book) (b₁ b₂ c d : Table) → BooksAlike (
     → Worked B (B .trains) b₂ d → (k l : ℕ) → t < k → k ≤ l → l ≤ B .trains → d k l ≡ c k l
 rows-alike t A B b₁ b₂ c d alike old new k l u a v =
     let again = worked-exists B t c in
-    worked-one B (B .trains) b₂ b₂ d _ new (reworked t A B b₁ c _ alike old again b₂) (λ i j x y z. refl)
+    worked-one B (B .trains) b₂ b₂ d _ new (reworked-is-worked t A B b₁ c _ alike old again b₂) (λ i j x y z. refl)
     k l (omega arith) a (omega arith)
     ∙ again .stand k l u a v
