@@ -13,5 +13,6 @@ pub mod Tables
 pub mod Worked
 pub mod Plan
 pub mod Bounds
+pub mod Totals
 pub mod Base
 pub mod Cases
