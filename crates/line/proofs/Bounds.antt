@@ -1,4 +1,4 @@
--- How large delays and cells can be. A worked cell is no more than its keep, so it is no more than all who leave its row
+-- How large delays and cells can be. A worked cell is no more than its keep, and so no more than all who leave its row,
 -- times the largest delay, whatever stands in the later rows.
 -- Assumes nothing.
 use mathlib.Core.Path.{_≡_, ap, sym, _∙_}
