@@ -2,21 +2,21 @@
 -- and choices there.
 -- Assumes nothing.
 use mathlib.Core.Path.{_≡_, refl, ap, sym, _∙_}
-use mathlib.Core.Logic.{_⊎_, inl, inr}
+use mathlib.Core.Logic.{inl, inr}
 use Prim.Native.Nat.{ℕ, _+_, _-_, _≤_, _<_}
 use native.Mathlib.Nat.{le-refl, le-of-eq, eq-or-lt-of-le}
 use native.Mathlib.Omega.{arith}
 use Rattle.lists.proofs.Induction.{up}
 use Rattle.line.specs.Line.{Running, Line}
-use Rattle.line.specs.Policy.{Decision, Keep, under, departure}
+use Rattle.line.specs.Policy.{Decision, Keep, departure}
 use Rattle.line.specs.Cells.{Table, leaving, aboard, Book, bookOf, runFrom, late, reach, keepCost, goCost, worked}
-use Rattle.line.specs.Cells.{choice, begins, follow, decide}
+use Rattle.line.specs.Cells.{choice, under, begins, follow, decide}
 use Rattle.line.specs.Alike.{LinesAlike, BooksAlike}
 use Rattle.line.proofs.Sums.{over, over-same}
 use Rattle.line.proofs.Passengers.{leaving-over, aboard-over}
 use Rattle.line.proofs.Days.{departures-alike, arrivals-alike, run-alike-refl}
 use Rattle.line.proofs.Along.{late-start}
-use Rattle.line.proofs.Choices.{choice-none, choice-keep}
+use Rattle.line.proofs.Choices.{choice-keep, choice-start}
 use Rattle.line.proofs.Decided.{begins-next, begins-first, begins-le}
 
 -- ---- alike from a later train on; and the sums of lines alike
@@ -78,20 +78,20 @@ module _ (k : ℕ) (A B : Book) (pos : 1 ≤ k) (alike : BooksAlike k A B) where
   abbrev S : Running
   S = B .running
 
-  begin-alike : departure R (runFrom k) k ≡ departure S (runFrom k) k
+  first-departs-alike : departure R (runFrom k) k ≡ departure S (runFrom k) k
   unfolding late
-  begin-alike = late-start R k k (le-refl k) ∙ sym (late-start S k k (le-refl k))
+  first-departs-alike = late-start R k k (le-refl k) ∙ sym (late-start S k k (le-refl k))
 
   pub late-alike : (l : ℕ) → k ≤ l → l ≤ A .trains → late R k l ≡ late S k l
   unfolding late departure
   late-alike l a b =
-      departures-alike k (A .trains) R S (runFrom k) (runFrom k) pos (alike .running) begin-alike l a b
+      departures-alike k (A .trains) R S (runFrom k) (runFrom k) pos (alike .running) first-departs-alike l a b
       (λ s c d e. rw e)
 
   pub reach-alike : (l : ℕ) → k ≤ l → l ≤ A .trains → reach R k l ≡ reach S k l
   unfolding reach departure
   reach-alike l a b =
-      arrivals-alike k (A .trains) R S (runFrom k) (runFrom k) pos (alike .running) begin-alike l a b
+      arrivals-alike k (A .trains) R S (runFrom k) (runFrom k) pos (alike .running) first-departs-alike l a b
       (λ s c d e. rw e)
 
   -- two tables alike at the cells on which (k, l) rests: the next one and, where go is a choice, (l, l)
@@ -105,18 +105,18 @@ module _ (k : ℕ) (A B : Book) (pos : 1 ≤ k) (alike : BooksAlike k A B) where
     unfolding goCost
     go-alike u = rw (alike .period l u b, alike .aboard k l (le-refl k) u b, first u)
 
-    only-keep : (C : Book) (x : Table) → k ≡ l → choice C x k l ≡ Keep
-    only-keep C x e = choice-none C x k l (late-start (C .running) k l (le-of-eq (sym e)))
-
     pub worked-alike : worked A c k l ≡ worked B d k l
     worked-alike = elim (eq-or-lt-of-le a) [
-      | inl e ↦ choice-keep A c k l (only-keep A c e) ∙ keep-alike ∙ sym (choice-keep B d k l (only-keep B d e))
+      | inl e ↦
+          let start : l ≤ k = le-of-eq (sym e) in
+          choice-keep A c k l (choice-start A c k l start) ∙ keep-alike
+          ∙ sym (choice-keep B d k l (choice-start B d k l start))
       | inr u ↦ unfold worked in rw (late-alike l a b, keep-alike, go-alike u)
     ]
 
     pub choice-alike : choice A c k l ≡ choice B d k l
     choice-alike = elim (eq-or-lt-of-le a) [
-      | inl e ↦ only-keep A c e ∙ sym (only-keep B d e)
+      | inl e ↦ choice-start A c k l (le-of-eq (sym e)) ∙ sym (choice-start B d k l (le-of-eq (sym e)))
       | inr u ↦ unfold choice in rw (late-alike l a b, keep-alike, go-alike u)
     ]
 

@@ -1,7 +1,7 @@
 -- The run from train k, and a policy along its own runs: it is late and arrives as the run does on which it rides.
 -- Assumes nothing.
 use mathlib.Core.Path.{_≡_, sym, _∙_}
-use mathlib.Core.Logic.{_⊎_, inl, inr}
+use mathlib.Core.Logic.{inl, inr}
 use Prim.Native.Nat.{ℕ, _+_, _-_, _≤_, _<_}
 use native.Mathlib.Nat.{le-refl}
 use native.Mathlib.Omega.{arith}
@@ -10,10 +10,10 @@ use Rattle.lists.proofs.Induction.{up}
 use Rattle.line.specs.Line.{Running}
 use Rattle.line.specs.Policy.{Keep, Go, Policy, arrival, excess, departure, missed, Day, dayOf}
 use Rattle.line.specs.Cells.{Along, runFrom, late, reach}
-use Rattle.line.proofs.Following.{arrival-departed, excess-next, keep-departs, go-departs, missed-goes}
+use Rattle.line.proofs.Following.{arrival-departed, excess-next, keep-departs, go-departs, missed-when}
 use Rattle.line.proofs.Following.{maintained-departs}
 use Rattle.line.proofs.Days.{arrivals-alike, excesses-alike, run-alike-refl}
-use Rattle.line.proofs.Starts.{startOf, start-le, start-first, start-missed, start-kept, start-before}
+use Rattle.line.proofs.Starts.{startOf, start-le, start-first, start-missed, start-maintained, start-before}
 use Rattle.line.proofs.Starts.{start-clear}
 
 -- ---- the run from train k
@@ -47,8 +47,8 @@ module _ (R : Running) (k : ℕ) where
 
   -- a policy along that run is late as it is, and arrives as it does
   module _ (p : Policy) (l : ℕ) (pos : 1 ≤ k) (on : Along R p k l) where
-    begins-alike : departure R p k ≡ departure R (runFrom k) k
-    begins-alike = on .on-time ∙ sym (go-departs R (runFrom k) k (run-goes k (le-refl k)))
+    first-departs-alike : departure R p k ≡ departure R (runFrom k) k
+    first-departs-alike = on .on-time ∙ sym (go-departs R (runFrom k) k (run-goes k (le-refl k)))
 
     departs-alike : (n : ℕ) → n < l → (s : ℕ) → k < s → s ≤ n → excess R p s ≡ excess R (runFrom k) s
         → departure R p s ≡ departure R (runFrom k) s
@@ -59,12 +59,12 @@ module _ (R : Running) (k : ℕ) where
     pub along-arrives : (n : ℕ) → k ≤ n → n < l → arrival R p n ≡ reach R k n
     unfolding reach
     along-arrives n a b =
-        arrivals-alike k n R R p (runFrom k) pos (run-alike-refl k n R) begins-alike
+        arrivals-alike k n R R p (runFrom k) pos (run-alike-refl k n R) first-departs-alike
         n a (le-refl n) (departs-alike n b)
 
     pub along-excess : k < l → excess R p l ≡ late R k l
     along-excess h =
-        excesses-alike k l R R p (runFrom k) pos (run-alike-refl k l R) begins-alike
+        excesses-alike k l R R p (runFrom k) pos (run-alike-refl k l R) first-departs-alike
         (l - 1) l (omega arith) (omega arith) (omega arith) (departs-alike (l - 1) (omega arith))
         ∙ sym (late-excess l h)
 
@@ -85,8 +85,8 @@ module _ (R : Running) (p : Policy) (k : ℕ) (pos : 1 ≤ k) (on-time : departu
           up (λ (j : ℕ). departure R p (start j) ≡ 0) k s l
           (rw (start-first D k) on-time)
           (λ j a b e. elim (true-or-false (missed R p j)) [
-            | inl m ↦ rw (start-missed D k j a m) (go-departs R p j (missed-goes R p j m))
-            | inr m ↦ rw (start-kept D k j m) e
+            | inl m ↦ rw (start-missed D k j a m) (go-departs R p j (missed-when R p j m .0))
+            | inr m ↦ rw (start-maintained D k j m) e
           ])
 
   pub start-arrives : (s : ℕ) → k ≤ s → arrival R p s ≡ reach R (start (s + 1)) s

@@ -7,11 +7,11 @@ use native.Mathlib.Nat.{le-refl, le-trans, le-of-eq, mul-le-mul}
 use native.Mathlib.Omega.{arith}
 use Rattle.lists.proofs.Induction.{up}
 use Rattle.line.specs.Line.{Running}
-use Rattle.line.specs.Policy.{Decision, Keep, Go, Policy, under, arrival, departure}
-use Rattle.line.specs.Cells.{Table, leaving, aboard, Book, runFrom, reach, keepCost, goCost, Worked}
+use Rattle.line.specs.Policy.{Decision, Keep, Go, Policy, departs, arrival, departure}
+use Rattle.line.specs.Cells.{Table, Book, runFrom, reach, keepCost, goCost, Worked}
 use Rattle.line.specs.Alike.{BooksAlike}
 use Rattle.line.specs.Sum.{sum_from_to_}
-use Rattle.line.specs.Ranges.{RunInRange, InRange}
+use Rattle.line.specs.Ranges.{RunningInRange, BookInRange}
 use Rattle.line.proofs.Sums.{over, sum-over, over-first, over-split, over-same, over-scale, over-le}
 use Rattle.line.proofs.Sums.{falls-within}
 use Rattle.line.proofs.Following.{arrival-departed, excess-next}
@@ -19,12 +19,12 @@ use Rattle.line.proofs.Choices.{worked-le-keep}
 
 -- ---- delays
 
-module _ (m : ℕ) (R : Running) (range : RunInRange m R) (p : Policy) where
+module _ (m : ℕ) (R : Running) (range : RunningInRange m R) (p : Policy) where
   departure-le : (i : ℕ) → departure R p (i + 1) ≤ arrival R p i
   unfolding departure
   departure-le i = either (p (i + 1)) _ (omega (arith, excess-next R p i))
     where
-      either : (b : Decision) (e : ℕ) → e ≤ arrival R p i → under b e 0 ≤ arrival R p i
+      either : (b : Decision) (e : ℕ) → e ≤ arrival R p i → departs b e ≤ arrival R p i
       either Keep e h = h
       either Go e h = omega arith
 
@@ -46,13 +46,12 @@ module _ (m : ℕ) (R : Running) (range : RunInRange m R) (p : Policy) where
 
 -- ---- cells
 
-pub reach-le : (B : Book) → RunInRange (B .trains) (B .running) → (k l : ℕ) → l ≤ B .trains
-    → reach (B .running) k l ≤ 92160
+pub reach-le : (m : ℕ) (R : Running) → RunningInRange m R → (k l : ℕ) → l ≤ m → reach R k l ≤ 92160
 unfolding reach
-reach-le B run k l b = arrival-le (B .trains) (B .running) run (runFrom k) l b
+reach-le m R range k = arrival-le m R range (runFrom k)
 
 -- a worked cell is at most all who leave from l on, times the largest delay, whatever stands in the later rows
-pub row-le : (B : Book) → RunInRange (B .trains) (B .running) → (t : ℕ) (c d : Table) → Worked B t c d
+pub row-le : (B : Book) → RunningInRange (B .trains) (B .running) → (t : ℕ) (c d : Table) → Worked B t c d
     → (k l : ℕ) → 1 ≤ k → k ≤ t → k ≤ l → l ≤ B .trains → d k l ≤ over l (B .trains + 1) (B .leaving k) * 92160
 row-le B run t c d W k l pos h a b =
     omega (
@@ -60,7 +59,7 @@ row-le B run t c d W k l pos h a b =
       W .last k,
       falls-within l (B .trains + 1) cost (d k) (omega arith) (λ s u v. keep s (omega arith) (omega arith)),
       over-le l (B .trains + 1) cost (λ s. B .leaving k s * 92160) (omega arith)
-          (λ s u v. mul-le-mul (le-refl (B .leaving k s)) (reach-le B run k s (omega arith))),
+          (λ s u v. mul-le-mul (le-refl (B .leaving k s)) (reach-le (B .trains) (B .running) run k s (omega arith))),
       over-scale l (B .trains + 1) (B .leaving k) 92160 (omega arith),
     )
   where
@@ -70,7 +69,7 @@ row-le B run t c d W k l pos h a b =
     keep : (s : ℕ) → k ≤ s → s ≤ B .trains → d k s ≤ B .leaving k s * reach (B .running) k s + d k (s + 1)
     keep s u v = le-trans (le-of-eq (W .anew k s pos h u v)) (unfold keepCost in worked-le-keep B d k s)
 
-module _ (B : Book) (range : InRange B) (k : ℕ) (pos : 1 ≤ k) where
+module _ (B : Book) (range : BookInRange B) (k : ℕ) (pos : 1 ≤ k) where
   -- all who leave from l on
   leavers-le : (l : ℕ) → k ≤ l → l ≤ B .trains → over l (B .trains + 1) (B .leaving k) ≤ 20800000
   leavers-le l a b =
@@ -92,14 +91,22 @@ module _ (B : Book) (range : InRange B) (k : ℕ) (pos : 1 ≤ k) where
   -- the two choices, over the cells on which they rest
   pub keep-le : (c : Table) (l : ℕ) → k ≤ l → l ≤ B .trains → keepCost B c k l ≤ 1916928000000 + c k (l + 1)
   unfolding keepCost
-  keep-le c l a b = omega (arith, mul-le-mul (leaving-le l a b) (reach-le B (range .running) k l b))
+  keep-le c l a b = omega (arith, mul-le-mul (leaving-le l a b) (reach-le _ _ (range .running) k l b))
 
   pub go-le : (c : Table) (l : ℕ) → k < l → l ≤ B .trains → goCost B c k l ≤ 29952000000 + c l l
   unfolding goCost
   go-le c l a b = omega (arith, mul-le-mul (range .period l (omega arith) b) (range .aboard k l pos a b))
 
+leavers-alike : (A B : Book) → BooksAlike 1 A B → (k : ℕ) → 1 ≤ k
+    → sum (A .leaving k) from k to (A .trains) ≡ sum (B .leaving k) from k to (B .trains)
+leavers-alike A B alike k a =
+    sum-over (A .leaving k) k (A .trains)
+    ∙ over-same k (A .trains + 1) _ _ (λ l u v. alike .leaving k l a u (omega arith))
+    ∙ ap (λ (n : ℕ). over k (n + 1) (B .leaving k)) (alike .trains)
+    ∙ sym (sum-over (B .leaving k) k (B .trains))
+
 -- the ranges are asked of the trains in use alone
-pub range-alike : (A B : Book) → BooksAlike 1 A B → InRange A → InRange B
+pub range-alike : (A B : Book) → BooksAlike 1 A B → BookInRange A → BookInRange B
 range-alike A B alike range =
     record {
       running = record {
@@ -107,7 +114,7 @@ range-alike A B alike range =
         arrive = λ i x a b. same (alike .running .arrive i x a (within b)) (range .running .arrive i x a (within b));
       };
       period = λ s a b. same (alike .period s a (within b)) (range .period s a (within b));
-      leaving = λ k a b. same (leavers k a) (range .leaving k a (within b));
+      leaving = λ k a b. same (leavers-alike A B alike k a) (range .leaving k a (within b));
       aboard = λ k l a b u. same (alike .aboard k l a b (within u)) (range .aboard k l a b (within u));
     }
   where
@@ -116,10 +123,3 @@ range-alike A B alike range =
 
     within : {i : ℕ} → i ≤ B .trains → i ≤ A .trains
     within b = le-trans b (le-of-eq (sym (alike .trains)))
-
-    leavers : (k : ℕ) → 1 ≤ k → sum (A .leaving k) from k to (A .trains) ≡ sum (B .leaving k) from k to (B .trains)
-    leavers k a =
-        sum-over (A .leaving k) k (A .trains)
-        ∙ over-same k (A .trains + 1) _ _ (λ l u v. alike .leaving k l a u (omega arith))
-        ∙ ap (λ (n : ℕ). over k (n + 1) (B .leaving k)) (alike .trains)
-        ∙ sym (sum-over (B .leaving k) k (B .trains))

@@ -1,7 +1,7 @@
 -- The two choices of a cell, and the cell on which a run begins.
 -- Assumes nothing.
 use mathlib.Core.Path.{_≡_, refl, sym, _∙_}
-use mathlib.Core.Logic.{_⊎_, inl, inr}
+use mathlib.Core.Logic.{inl, inr}
 use Prim.Native.Nat.{ℕ, zero, suc, _≤_, _<_}
 use native.Mathlib.Nat.{le-refl}
 use native.Mathlib.Omega.{arith}
@@ -47,9 +47,9 @@ module _ (B : Book) (c : Table) (k l : ℕ) where
   worked-le-go = lesser-le-go (keepCost B c k l) (goCost B c k l) (late (B .running) k l)
 
   -- Where the excess is 0 only keep is a choice.
-  pub choice-none : late (B .running) k l ≡ 0 → choice B c k l ≡ Keep
+  pub choice-no-excess : late (B .running) k l ≡ 0 → choice B c k l ≡ Keep
   unfolding choice
-  choice-none e = rw e
+  choice-no-excess e = rw e
 
   -- keep is chosen where it is no more than go,
   pub choice-keep : choice B c k l ≡ Keep → worked B c k l ≡ keepCost B c k l
@@ -62,8 +62,11 @@ module _ (B : Book) (c : Table) (k l : ℕ) where
   unfolding choice worked
   choice-go = prefer-go (keepCost B c k l) (goCost B c k l) (late (B .running) k l)
 
--- the cell on which a run begins has no choice but keep
+-- where a run begins only keep is a choice
+pub choice-start : (B : Book) (c : Table) (k l : ℕ) → l ≤ k → choice B c k l ≡ Keep
+choice-start B c k l h = choice-no-excess B c k l (late-start (B .running) k l h)
+
 pub cell-start : (B : Book) (t : ℕ) (c d : Table) → Worked B t c d → (l : ℕ) → 1 ≤ l → l ≤ t → l ≤ B .trains
     → d l l ≡ keepCost B d l l
 cell-start B t c d W l a b u =
-    W .anew l l a b (le-refl l) u ∙ choice-keep B d l l (choice-none B d l l (late-start (B .running) l l (le-refl l)))
+    W .anew l l a b (le-refl l) u ∙ choice-keep B d l l (choice-start B d l l (le-refl l))

@@ -7,7 +7,7 @@ use Rattle.lists.proofs.Choice.{if-same}
 use Rattle.lists.proofs.Induction.{down, up}
 use Rattle.line.specs.Line.{Running, Line}
 use Rattle.line.specs.Policy.{Policy, arrival, excess, departure, missed, Day, dayOf, counts, pairsTotal, total}
-use Rattle.line.specs.Alike.{RunAlike, LinesAlike}
+use Rattle.line.specs.Alike.{RunningAlike, LinesAlike}
 use Rattle.line.proofs.Sums.{over, over-same}
 use Rattle.line.proofs.Passengers.{counts-last, counts-next, pairs-over}
 use Rattle.line.proofs.Following.{first-on-time, arrival-departed, excess-next}
@@ -45,7 +45,7 @@ module _ (k : ℕ) (L M : Line) (D E : Day) (lines : LinesAlike k L M) (days : D
 
 -- Two lines alike from train k on and two policies under which it departs alike: as long as each later train that finds
 -- the same excess departs alike, so does the next one, and all of them arrive alike.
-module _ (k m : ℕ) (R S : Running) (p q : Policy) (pos : 1 ≤ k) (run : RunAlike k m R S)
+module _ (k m : ℕ) (R S : Running) (p q : Policy) (pos : 1 ≤ k) (run : RunningAlike k m R S)
     (begin : departure R p k ≡ departure S q k) where
   -- up to train n
   abbrev DepartsAlike : ℕ → Type 0
@@ -89,14 +89,14 @@ module _ (k m : ℕ) (R S : Running) (p q : Policy) (pos : 1 ≤ k) (run : RunAl
       }
 
 -- under policies alike after train k they are
-pub policies-alike : (k m : ℕ) (R S : Running) (p q : Policy) → 1 ≤ k → RunAlike k m R S
+pub policies-alike : (k m : ℕ) (R S : Running) (p q : Policy) → 1 ≤ k → RunningAlike k m R S
     → departure R p k ≡ departure S q k → ((s : ℕ) → k < s → s ≤ m → p s ≡ q s)
     → DaysAlike k m (dayOf R p) (dayOf S q)
 unfolding departure missed
 policies-alike k m R S p q pos run begin same =
     days-alike k m R S p q pos run begin (λ s a b e. rw (same s a b, e)) (λ s a b e. rw (same s a b, e))
 
-pub run-alike-refl : (k m : ℕ) (R : Running) → RunAlike k m R R
+pub run-alike-refl : (k m : ℕ) (R : Running) → RunningAlike k m R R
 run-alike-refl k m R = record { slack = λ s a b. refl; arrive = λ i late a b. refl }
 
 pub lines-alike-refl : (k : ℕ) (L : Line) → LinesAlike k L L

@@ -2,7 +2,7 @@
 -- go only where there is an excess, so that each go is a miss and begins a run.
 -- Assumes nothing.
 use mathlib.Core.Path.{_≡_, refl, ap, sym, _∙_}
-use mathlib.Core.Logic.{_⊎_, inl, inr}
+use mathlib.Core.Logic.{inl, inr}
 use mathlib.Core.Bool.{true}
 use Prim.Native.Nat.{ℕ, zero, suc, _+_, _-_, _≤_, _<_}
 use native.Mathlib.Nat.{le-refl, le-of-eq, eq-or-lt-of-le}
@@ -12,26 +12,34 @@ use Rattle.lists.proofs.Choice.{below-yes, below-no}
 use Rattle.lists.proofs.Order.{lt-or-ge}
 use Rattle.lists.proofs.Induction.{up}
 use Rattle.line.specs.Line.{Running}
-use Rattle.line.specs.Policy.{Decision, Keep, Go, Policy, under, arrival, excess, departure, missed, Day, dayOf}
-use Rattle.line.specs.Cells.{Table, Along, Book, reach, choice, begins, follow, decide}
-use Rattle.line.proofs.Following.{keep-or-go, keep-not-go, under-keep, under-go, first-on-time, go-departs}
+use Rattle.line.specs.Policy.{Decision, Keep, Go, Policy, arrival, excess, departure, missed, Day, dayOf}
+use Rattle.line.specs.Cells.{Table, Along, Book, reach, choice, under, begins, follow, decide}
+use Rattle.line.proofs.Following.{keep-or-go, keep-not-go, first-on-time, go-departs}
 use Rattle.line.proofs.Following.{keep-maintains, go-misses}
-use Rattle.line.proofs.Starts.{startOf, start-le, start-earlier, start-missed, start-kept, start-second}
-use Rattle.line.proofs.Along.{late-start, start-arrives, start-excess}
-use Rattle.line.proofs.Choices.{choice-none, choice-go}
+use Rattle.line.proofs.Starts.{startOf, start-le, start-earlier, start-missed, start-maintained, start-second}
+use Rattle.line.proofs.Along.{start-arrives, start-excess}
+use Rattle.line.proofs.Choices.{choice-no-excess, choice-go, choice-start}
 
 -- a policy that goes where the cells go misses there
 pub goes-missed : (B : Book) (c : Table) (p : Policy) (k : ℕ) → 1 ≤ k → departure (B .running) p k ≡ 0
     → (s : ℕ) → k ≤ s → choice B c (startOf (dayOf (B .running) p) k s) s ≡ Go → p s ≡ Go
     → missed (B .running) p s ≡ true
 goes-missed B c p k pos on-time s a go same =
-    let chosen = choice-go B c _ s go in
     elim (eq-or-lt-of-le (start-le (dayOf (B .running) p) k s a .1)) [
-      | inl e ↦ absurd (omega (arith, chosen .2, late-start (B .running) _ s (le-of-eq (sym e))))
-      | inr l ↦ go-misses (B .running) p s same (rw (start-excess (B .running) p k pos on-time s a l) (chosen .2))
+      | inl e ↦ keep-not-go (sym (choice-start B c _ s (le-of-eq (sym e))) ∙ go)
+      | inr l ↦
+          go-misses (B .running) p s same
+          (rw (start-excess (B .running) p k pos on-time s a l) (choice-go B c _ s go .2))
     ]
 
 -- ---- rules
+
+module _ {A : Type 0} {b : Decision} (x y : A) where
+  under-keep : b ≡ Keep → under b x y ≡ x
+  under-keep e = rw e
+
+  under-go : b ≡ Go → under b x y ≡ y
+  under-go e = rw e
 
 module _ (rule : ℕ → ℕ → Decision) where
   pub begins-next : (i : ℕ) → begins rule (i + 1) ≡ under (rule (begins rule i) (i + 1)) (begins rule i) (i + 1)
@@ -99,7 +107,7 @@ module _ (B : Book) (c : Table) (k l : ℕ) (rule : ℕ → ℕ → Decision) (p
       (λ j v w e. begins-next rule j ∙ (elim (keep-or-go (rule (begins rule j) (j + 1))) [
         | inl keep ↦
             under-keep _ _ keep ∙ e
-            ∙ sym (start-kept D k (j + 1) (keep-maintains R p (j + 1) (follow-next rule j ∙ keep)))
+            ∙ sym (start-maintained D k (j + 1) (keep-maintains R p (j + 1) (follow-next rule j ∙ keep)))
         | inr go ↦
             let missed = gone (j + 1) (omega arith) (begins rule j) e go (follow-next rule j ∙ go) in
             under-go _ _ go ∙ sym (start-missed D k (j + 1) (omega arith) missed)
@@ -170,4 +178,4 @@ module _ (B : Book) (c : Table) where
       let run = cells-obey B c in
       let late = start-excess (B .running) decided 1 (omega arith) (run .on-time) s (omega arith)
       (start-earlier _ 1 s a) in
-      obeys-does B c 1 1 (choice B c) (omega arith) run s a (omega arith) ∙ choice-none B c _ s (sym late ∙ none)
+      obeys-does B c 1 1 (choice B c) (omega arith) run s a (omega arith) ∙ choice-no-excess B c _ s (sym late ∙ none)

@@ -1,28 +1,21 @@
 -- What comes of a policy, sentence by sentence of document 01.
 -- Assumes nothing.
-use mathlib.Core.Path.{_≡_, refl, ap, sym}
+use mathlib.Core.Path.{_≡_, refl, ap}
 use mathlib.Core.Logic.{_⊎_, inl, inr}
-use mathlib.Core.Bool.{true, false, true≢false}
+use mathlib.Core.Bool.{true, false}
 use Prim.Native.Nat.{ℕ, zero, suc, _+_, _-_, _≤_, _<_}
 use native.Mathlib.Nat.{zero-sub}
 use native.Mathlib.Omega.{arith}
 use Rattle.lists.proofs.Order.{zero-not-one}
 use Rattle.line.specs.Line.{Running}
-use Rattle.line.specs.Policy.{Decision, Keep, Go, Policy, under, misses, arrival, excess, departure, missed}
+use Rattle.line.specs.Policy.{Decision, Keep, Go, Policy, departs, misses, arrival, excess, departure, missed}
 
 pub keep-or-go : (b : Decision) → (b ≡ Keep) ⊎ (b ≡ Go)
 keep-or-go Keep = inl refl
 keep-or-go Go = inr refl
 
 pub keep-not-go : {A : Type 0} → Keep ≡ Go → A
-keep-not-go e = zero-not-one (ap (λ (b : Decision). under b 0 1) e)
-
-module _ {A : Type 0} {b : Decision} (x y : A) where
-  pub under-keep : b ≡ Keep → under b x y ≡ x
-  under-keep e = rw e
-
-  pub under-go : b ≡ Go → under b x y ≡ y
-  under-go e = rw e
+keep-not-go e = zero-not-one cc
 
 module _ (R : Running) (p : Policy) where
   -- Train 1 departs with delay 0: whatever the slack and the policy.
@@ -30,7 +23,7 @@ module _ (R : Running) (p : Policy) where
   unfolding departure excess arrival
   first-on-time = either (p 1) _ (zero-sub (R .slack 1))
     where
-      either : (b : Decision) (e : ℕ) → e ≡ 0 → under b e 0 ≡ 0
+      either : (b : Decision) (e : ℕ) → e ≡ 0 → departs b e ≡ 0
       either Keep e h = h
       either Go e h = refl
 
@@ -49,7 +42,7 @@ module _ (R : Running) (p : Policy) (s : ℕ) where
   -- Under keep the train departs late by exactly the excess, and the transfer is maintained.
   pub keep-departs : p s ≡ Keep → departure R p s ≡ excess R p s
   unfolding departure
-  keep-departs = under-keep _ _
+  keep-departs e = rw e
 
   pub keep-maintains : p s ≡ Keep → missed R p s ≡ false
   unfolding missed
@@ -58,7 +51,7 @@ module _ (R : Running) (p : Policy) (s : ℕ) where
   -- Under go it departs with delay 0.
   pub go-departs : p s ≡ Go → departure R p s ≡ 0
   unfolding departure
-  go-departs = under-go _ _
+  go-departs e = rw e
 
   -- A station with excess 0 maintains its transfer under either decision.
   pub no-excess-maintains : excess R p s ≡ 0 → missed R p s ≡ false
@@ -74,28 +67,20 @@ module _ (R : Running) (p : Policy) (s : ℕ) where
   unfolding missed departure
   maintained-departs = either (p s) (excess R p s)
     where
-      either : (b : Decision) (e : ℕ) → misses b e ≡ false → under b e 0 ≡ e
+      either : (b : Decision) (e : ℕ) → misses b e ≡ false → departs b e ≡ e
       either Keep e h = refl
       either Go zero h = refl
       either Go (suc e) h = cc
 
   -- A transfer is missed under go, with an excess.
-  pub missed-goes : missed R p s ≡ true → p s ≡ Go
+  pub missed-when : missed R p s ≡ true → (p s ≡ Go) × (0 < excess R p s)
   unfolding missed
-  missed-goes = either (p s) (excess R p s)
+  missed-when = either (p s) (excess R p s)
     where
-      either : (b : Decision) (e : ℕ) → misses b e ≡ true → b ≡ Go
-      either Keep e h = cc
-      either Go e h = refl
-
-  pub missed-late : missed R p s ≡ true → 0 < excess R p s
-  unfolding missed
-  missed-late = either (p s) (excess R p s)
-    where
-      either : (b : Decision) (e : ℕ) → misses b e ≡ true → 0 < e
-      either Keep e h = absurd (true≢false (sym h))
-      either Go zero h = absurd (true≢false (sym h))
-      either Go (suc e) h = omega arith
+      either : (b : Decision) (e : ℕ) → misses b e ≡ true → (b ≡ Go) × (0 < e)
+      either Keep e h = zero-not-one cc
+      either Go zero h = zero-not-one cc
+      either Go (suc e) h = (refl, omega arith)
 
   pub go-misses : p s ≡ Go → 0 < excess R p s → missed R p s ≡ true
   unfolding missed

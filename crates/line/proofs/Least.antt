@@ -3,7 +3,7 @@
 -- policy has less than the cell at which it begins, and one that does what the cells say has just that.
 -- Assumes nothing.
 use mathlib.Core.Path.{_≡_, ap, subst, _∙_}
-use mathlib.Core.Logic.{_⊎_, inl, inr}
+use mathlib.Core.Logic.{inl, inr}
 use Prim.Native.Nat.{ℕ, _+_, _≤_, _<_}
 use native.Mathlib.Nat.{le-refl, le-trans, le-of-eq, eq-or-lt-of-le}
 use native.Mathlib.Omega.{arith}
@@ -14,8 +14,8 @@ use Rattle.line.specs.Policy.{Keep, Policy, departure, missed, Day, dayO
 use Rattle.line.specs.Cells.{Table, Along, aboard, Book, bookOf, late, keepCost, goCost, worked, Worked, choice}
 use Rattle.line.proofs.Sums.{over, sum-over, over-none, over-zero, falls-equal, falls-within, falls-each}
 use Rattle.line.proofs.Passengers.{aboard-over}
-use Rattle.line.proofs.Following.{keep-or-go, keep-maintains, missed-late}
-use Rattle.line.proofs.Starts.{startOf, start-le, start-first, start-missed, start-kept, start-through}
+use Rattle.line.proofs.Following.{keep-or-go, keep-maintains, missed-when}
+use Rattle.line.proofs.Starts.{startOf, start-le, start-first, start-missed, start-maintained, start-through}
 use Rattle.line.proofs.Runs.{runCost, pairs-by-runs}
 use Rattle.line.proofs.Along.{start-arrives, start-excess}
 use Rattle.line.proofs.Choices.{worked-le-keep, worked-le-go, choice-keep, choice-go, cell-start}
@@ -65,7 +65,7 @@ module _ (L : Line) (c d : Table) (W : Worked (bookOf L) (L .trains) c d) where
           | inl m ↦
               let begin = cell-start B (L .trains) c d W s (omega arith) b b in
               rw (m, arrives, start-missed D k s a m) (omega (arith, begin))
-          | inr m ↦ rw (m, arrives, start-kept D k s m) (omega arith)
+          | inr m ↦ rw (m, arrives, start-maintained D k s m) (omega arith)
         ]
 
     -- the cell is no more than the price,
@@ -75,7 +75,7 @@ module _ (L : Line) (c d : Table) (W : Worked (bookOf L) (L .trains) c d) where
       | inl m ↦ elim (eq-or-lt-of-le (start-le D k s a .1)) [
         | inl e ↦ unfold cellAt in rw (m, e) (unfold goCost in omega arith)
         | inr l ↦
-            let late : 0 < late R (start s) s = rw (start-excess R p k pos on-time s a l) at (missed-late R p s m) in
+            let late : 0 < late R (start s) s = rw (start-excess R p k pos on-time s a l) at (missed-when R p s m .1) in
             rw (m, cell-worked s a b) (worked-le-go B d (start s) s late)
       ]
       | inr m ↦ rw (m, cell-worked s a b) (worked-le-keep B d (start s) s)
@@ -99,9 +99,6 @@ module _ (L : Line) (c d : Table) (W : Worked (bookOf L) (L .trains) c d) where
           rw (gone, cell-worked s a b) (choice-go B d (start s) s go .0)
     ]
 
-    falls : (s : ℕ) → k ≤ s → s ≤ L .trains → cellAt s ≤ runCost L D k s + cellAt (s + 1)
-    falls s a b = le-trans (price-le s a b) (le-of-eq (price-cost s a b))
-
   -- ---- all stations from l on
 
   module _ (p : Policy) (k l : ℕ) (pos : 1 ≤ k) (a : k ≤ l) (b : l ≤ L .trains + 1)
@@ -124,7 +121,10 @@ module _ (L : Line) (c d : Table) (W : Worked (bookOf L) (L .trains) c d) where
     by-runs = pairs-by-runs L day k pos l a b (on .maintained) ∙ sum-over (runCost L day k) l (L .trains)
 
     falls-here : (s : ℕ) → l ≤ s → s < L .trains + 1 → cell s ≤ runCost L day k s + cell (s + 1)
-    falls-here s u v = falls p k pos (on .on-time) s (omega arith) (omega arith)
+    falls-here s u v =
+        le-trans
+        (price-le p k pos (on .on-time) s (omega arith) (omega arith))
+        (le-of-eq (price-cost p k pos (on .on-time) s (omega arith) (omega arith)))
 
     -- no policy has less than the cell,
     pub least-of-all : d k l ≤ pairsTotal L day k l

@@ -70,9 +70,13 @@ module _ (D : Day) where
           (λ h a b e. first-next D _ false h t (omega arith) ∙ either (D .missed (h + 1)) _ e)
 
   -- and only then.
-  pub kept-when : (i t : ℕ) → i ≤ t → Clear D i (t + 1) → dropped D i (t + 1) ≡ false
+  pub not-dropped-when : (i j : ℕ) → i < j → Clear D i j → dropped D i j ≡ false
   unfolding dropped
-  kept-when i t l clear = first-clear D _ false i t t l (omega arith) clear ∙ first-none D _ false t
+  not-dropped-when i j l clear =
+      let last : j - 1 + 1 ≡ j = omega arith in
+      subst (λ (h : ℕ). dropped D i h ≡ false) last
+      (first-clear D (λ s. true) false i (j - 1) (j - 1) (omega arith) (omega arith) (λ s u v. clear s u (omega arith))
+      ∙ first-none D (λ s. true) false (j - 1))
 
 module _ (L : Line) (D : Day) where
   -- who boards the last train counts its delay
@@ -105,9 +109,9 @@ module _ (L : Line) (D : Day) where
       either false y e f = f
 
   -- one who misses nothing counts the delay of the last train
-  pub counts-kept : (i t : ℕ) → i ≤ t → Clear D i (t + 1) → counts L D i (t + 1) ≡ D .arrival t
+  pub counts-clear : (i t : ℕ) → i ≤ t → Clear D i (t + 1) → counts L D i (t + 1) ≡ D .arrival t
   unfolding counts
-  counts-kept i t l clear = first-clear D _ _ i t t l (omega arith) clear ∙ counts-last t
+  counts-clear i t l clear = first-clear D _ _ i t t l (omega arith) clear ∙ counts-last t
 
   -- one who first misses at station l counts the period there
   pub counts-missed : (i l t : ℕ) → i < l → l ≤ t → Clear D i l → D .missed l ≡ true

@@ -2,7 +2,7 @@
 -- station with excess 0 shows keep.
 -- Assumes nothing.
 use mathlib.Core.Path.{_≡_, refl, sym, subst, _∙_}
-use mathlib.Core.Logic.{_⊎_, inl, inr}
+use mathlib.Core.Logic.{inl, inr}
 use Prim.Native.Nat.{ℕ, _+_, _≤_, _<_}
 use native.Mathlib.Nat.{le-trans, le-of-eq, le-antisymm, eq-or-lt-of-le}
 use native.Mathlib.Omega.{arith}
@@ -59,22 +59,27 @@ module _ (L : Line) (p q : Policy) (P : IsPlan L p) (Q : IsPlan L q) where
       ])
       t a (omega arith)
 
+-- policies alike on trains 2 to m differ from a third first at the same train
+first-difference-alike : (m : ℕ) (p q r : Policy) (t : ℕ) → ((i : ℕ) → 2 ≤ i → i ≤ m → p i ≡ q i)
+    → FirstDifference m q r t → FirstDifference m p r t
+first-difference-alike m p q r t same first =
+    record {
+      from-two = first .from-two;
+      in-line = first .in-line;
+      alike = λ i a b. same i a (omega (arith, first .in-line)) ∙ first .alike i a b;
+      differ = λ f. first .differ (sym (same t (first .from-two) (first .in-line)) ∙ f);
+    }
+
 -- a plan is read on trains 2 to m alone, of its line and of itself
 pub plan-alike : (L M : Line) (p q : Policy) → LinesAlike 1 L M → ((i : ℕ) → 2 ≤ i → i ≤ L .trains → p i ≡ q i)
     → IsPlan L p → IsPlan M q
 plan-alike L M p q lines same P =
     record {
       least = λ r. le-trans (le-of-eq (sym here)) (le-trans (P .least r) (le-of-eq (other r)));
-      tie = λ r e t first.
-          let m : t ≤ L .trains = omega (arith, first .in-line, lines .trains) in
-          sym (same t (first .from-two) m)
-          ∙ P .tie r (other r ∙ e ∙ sym here) t
-          (record {
-            from-two = first .from-two;
-            in-line = m;
-            alike = λ i a b. same i a (omega arith) ∙ first .alike i a b;
-            differ = λ f. first .differ (sym (same t (first .from-two) m) ∙ f);
-          });
+      tie = λ r e t differ.
+          let first = subst (λ (m : ℕ). FirstDifference m q r t) (sym (lines .trains)) differ in
+          sym (same t (first .from-two) (first .in-line))
+          ∙ P .tie r (other r ∙ e ∙ sym here) t (first-difference-alike (L .trains) p q r t same first);
     }
   where
     here : total L p ≡ total M q

@@ -5,7 +5,7 @@
 -- Assumes nothing.
 use mathlib.Core.Path.{_≡_, ap, ap₂, sym, _∙_}
 use mathlib.Core.Bool.{true}
-use mathlib.Core.Logic.{_⊎_, inl, inr}
+use mathlib.Core.Logic.{inl, inr}
 use Prim.Native.Nat.{ℕ, _+_, _*_, _≤_}
 use native.Mathlib.Nat.{le-refl, mul-comm, add-zero}
 use native.Mathlib.Omega.{arith}
@@ -17,8 +17,8 @@ use Rattle.line.specs.Policy.{Policy, Day, dayOf, counts, pairsTotal, to
 use Rattle.line.specs.Cells.{leaving, aboard}
 use Rattle.line.proofs.Sums.{over, sum-over, over-none, over-first, over-split, over-same, over-add}
 use Rattle.line.proofs.Sums.{over-scale, over-times, falls-equal}
-use Rattle.line.proofs.Passengers.{Clear, counts-kept, counts-missed, pairs-over, leaving-over, aboard-over}
-use Rattle.line.proofs.Starts.{startOf, start-le, start-missed, start-kept, start-clear, start-through}
+use Rattle.line.proofs.Passengers.{Clear, counts-clear, counts-missed, pairs-over, leaving-over, aboard-over}
+use Rattle.line.proofs.Starts.{startOf, start-le, start-missed, start-maintained, start-clear, start-through}
 use Rattle.line.proofs.Starts.{clear-next}
 
 unfoldable pub runCost : Line → Day → ℕ → ℕ → ℕ
@@ -28,9 +28,9 @@ runCost L D k s =
 
 module _ (L : Line) (D : Day) where
   -- those who leave train l count its delay, where nothing is missed up to it
-  pairs-kept : (k l : ℕ) → k ≤ l → l ≤ L .trains → Clear D k (l + 1)
+  pairs-clear : (k l : ℕ) → k ≤ l → l ≤ L .trains → Clear D k (l + 1)
       → pairsTotal L D k l ≡ leaving L k l * D .arrival l + pairsTotal L D k (l + 1)
-  pairs-kept k l a b clear =
+  pairs-clear k l a b clear =
       pairs-over L D k l
       ∙ over-first l (L .trains + 1) _ (omega arith)
       ∙ ap₂ _+_ (leavers ∙ ap (λ (x : ℕ). x * D .arrival l) (sym (leaving-over L k l))) (sym (pairs-over L D k (l + 1)))
@@ -39,34 +39,29 @@ module _ (L : Line) (D : Day) where
           ≡ over k (l + 1) (λ i. L .passengers i (l + 1)) * D .arrival l
       leavers =
           over-times k (l + 1) _ _ (D .arrival l) (omega arith)
-          (λ i c d. counts-kept L D i l (omega arith) (λ s u v. clear s (omega arith) v))
+          (λ i c d. counts-clear L D i l (omega arith) (λ s u v. clear s (omega arith) v))
+
+  -- of those who leave train t, the ones who were aboard at a missed station count its period
+  leavers-missed : (k l t : ℕ) → k ≤ l → l ≤ t → Clear D k l → D .missed l ≡ true
+      → over k (t + 1) (λ i. L .passengers i (t + 1) * counts L D i (t + 1))
+      ≡ over k l (λ i. L .passengers i (t + 1)) * L .period l
+      + over l (t + 1) (λ i. L .passengers i (t + 1) * counts L D i (t + 1))
+  leavers-missed k l t a b clear m =
+      over-split k l (t + 1) _ a (omega arith)
+      ∙ ap (λ (x : ℕ). x + over l (t + 1) (λ i. L .passengers i (t + 1) * counts L D i (t + 1)))
+      (over-times k l _ _ (L .period l) a (λ i u v. counts-missed L D i l t v b (λ s x y. clear s (omega arith) y) m))
 
   -- those aboard at a missed station count its period; the others are those who board there or later
   pairs-missed : (k l : ℕ) → 1 ≤ l → k ≤ l → l ≤ L .trains → Clear D k l → D .missed l ≡ true
       → pairsTotal L D k l ≡ L .period l * aboard L k l + pairsTotal L D l l
   pairs-missed k l pos a b clear m =
       pairs-over L D k l
-      ∙ over-same l (L .trains + 1) _ (λ t. riders t * L .period l + later t) (λ t c d. parted t c)
-      ∙ over-add l (L .trains + 1) _ later (omega arith)
+      ∙ over-same l (L .trains + 1) _ _ (λ t c d. leavers-missed k l t a c clear m)
+      ∙ over-add l (L .trains + 1) _ _ (omega arith)
       ∙ ap₂ _+_
-      (over-scale l (L .trains + 1) riders (L .period l) (omega arith) ∙ mul-comm _ (L .period l)
+      (over-scale l (L .trains + 1) _ (L .period l) (omega arith) ∙ mul-comm _ (L .period l)
       ∙ ap (λ (x : ℕ). L .period l * x) (sym (aboard-over L k l pos)))
       (sym (pairs-over L D l l))
-    where
-      riders : ℕ → ℕ
-      riders t = over k l (λ i. L .passengers i (t + 1))
-
-      later : ℕ → ℕ
-      later t = over l (t + 1) (λ i. L .passengers i (t + 1) * counts L D i (t + 1))
-
-      -- of those who leave train t
-      parted : (t : ℕ) → l ≤ t
-          → over k (t + 1) (λ i. L .passengers i (t + 1) * counts L D i (t + 1)) ≡ riders t * L .period l + later t
-      parted t c =
-          over-split k l (t + 1) _ a (omega arith)
-          ∙ ap (λ (x : ℕ). x + later t)
-          (over-times k l _ _ (L .period l) a
-          (λ i u v. counts-missed L D i l t v c (λ s x y. clear s (omega arith) y) m))
 
   module _ (k : ℕ) (pos : 1 ≤ k) where
     -- one station
@@ -78,12 +73,12 @@ module _ (L : Line) (D : Day) where
         let clear = start-clear D k s a in
         elim (true-or-false (D .missed s)) [
           | inl m ↦
-              let next = pairs-kept s s (le-refl s) b (λ r u v. absurd (omega arith)) in
+              let next = pairs-clear s s (le-refl s) b (λ r u v. absurd (omega arith)) in
               let gone = pairs-missed (startOf D k s) s (omega arith) (begin .1) b clear m in
               rw (start-missed D k s a m, if-yes (L .period s * aboard L (startOf D k s) s) 0 m) (omega arith)
           | inr m ↦
-              rw (start-kept D k s m, if-no (L .period s * aboard L (startOf D k s) s) 0 m)
-              (omega (arith, pairs-kept (startOf D k s) s (begin .1) b (clear-next D _ s clear m)))
+              rw (start-maintained D k s m, if-no (L .period s * aboard L (startOf D k s) s) 0 m)
+              (omega (arith, pairs-clear (startOf D k s) s (begin .1) b (clear-next D _ s clear m)))
         ]
 
     -- The total of those who board at k or later and leave after l, nothing being missed between k and l, is their cost

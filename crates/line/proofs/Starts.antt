@@ -4,7 +4,7 @@
 -- Assumes nothing.
 use mathlib.Core.Path.{_≡_, ap, sym, _∙_}
 use mathlib.Core.Bool.{Bool, true, false, true≢false}
-use mathlib.Core.Logic.{_⊎_, inl, inr}
+use mathlib.Core.Logic.{inl, inr}
 use Prim.Native.Nat.{ℕ, zero, suc, _+_, _-_, _≤_, _<_, max}
 use native.Mathlib.Nat.{le-refl, eq-or-lt-of-le}
 use native.Mathlib.Omega.{arith}
@@ -55,15 +55,15 @@ module _ (D : Day) (k : ℕ) where
   unfolding startOf
   start-missed s l m = let e : lastMissed D (s + 1) ≡ s = last-next D s ∙ if-yes _ _ m in omega arith
 
-  pub start-kept : (s : ℕ) → D .missed s ≡ false → startOf D k (s + 1) ≡ startOf D k s
+  pub start-maintained : (s : ℕ) → D .missed s ≡ false → startOf D k (s + 1) ≡ startOf D k s
   unfolding startOf
-  start-kept s m = let e : lastMissed D (s + 1) ≡ lastMissed D s = last-next D s ∙ if-no _ _ m in omega arith
+  start-maintained s m = let e : lastMissed D (s + 1) ≡ lastMissed D s = last-next D s ∙ if-no _ _ m in omega arith
 
   -- train s is on a run that begins with it or before
   pub start-before : (s : ℕ) → k ≤ s → startOf D k (s + 1) ≤ s
   start-before s l = elim (true-or-false (D .missed s)) [
     | inl m ↦ omega (arith, start-missed s l m)
-    | inr m ↦ omega (arith, start-kept s m, start-le s l)
+    | inr m ↦ omega (arith, start-maintained s m, start-le s l)
   ]
 
   pub start-earlier : (s : ℕ) → k < s → startOf D k s < s
@@ -79,7 +79,7 @@ module _ (D : Day) (k : ℕ) where
       (λ r a b. absurd (omega (arith, start-first)))
       (λ j a b clear r c d. elim (true-or-false (D .missed j)) [
         | inl m ↦ absurd (omega (arith, start-missed j a m))
-        | inr m ↦ clear-next D (startOf D k j) j clear m r (omega (arith, start-kept j m)) d
+        | inr m ↦ clear-next D (startOf D k j) j clear m r (omega (arith, start-maintained j m)) d
       ])
 
   -- where nothing is missed after k, the run from k goes on
@@ -87,7 +87,7 @@ module _ (D : Day) (k : ℕ) where
   start-through s l clear =
       up (λ (j : ℕ). startOf D k j ≡ k) k s l start-first
       (λ j a b e. elim (true-or-false (D .missed j)) [
-        | inr m ↦ start-kept j m ∙ e
+        | inr m ↦ start-maintained j m ∙ e
         | inl m ↦ start-missed j a m ∙ elim (eq-or-lt-of-le a) [
           | inl same ↦ sym same
           | inr c ↦ absurd (true≢false (sym m ∙ clear j c b))
@@ -106,5 +106,5 @@ start-alike D E k s l same =
     (λ j a b e. elim (true-or-false (D .missed j)) [
       | inl m ↦ start-missed D k j (omega arith) m
           ∙ sym (start-missed E k j (omega arith) (sym (same j (omega arith) b) ∙ m))
-      | inr m ↦ start-kept D k j m ∙ e ∙ sym (start-kept E k j (sym (same j (omega arith) b) ∙ m))
+      | inr m ↦ start-maintained D k j m ∙ e ∙ sym (start-maintained E k j (sym (same j (omega arith) b) ∙ m))
     ])

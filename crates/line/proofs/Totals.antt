@@ -9,10 +9,9 @@ use Rattle.lists.specs.Choice.{if_then_else_}
 use Rattle.lists.specs.Run.{runOf}
 use Rattle.lists.proofs.Induction.{down}
 use Rattle.line.specs.Line.{Line}
-use Rattle.line.specs.Policy.{Policy, arrival, missed, Day, dayOf, counts}
-use Rattle.line.specs.Policy.{total}
+use Rattle.line.specs.Policy.{Policy, Day, dayOf, counts, total}
 use Rattle.line.specs.Cells.{leaving, aboard, bookOf}
-use Rattle.line.specs.Ranges.{LineInRange, InRange}
+use Rattle.line.specs.Ranges.{LineInRange, BookInRange}
 use Rattle.line.proofs.Sums.{over, sum-over, over-first, over-none, over-split, over-scale, over-le}
 use Rattle.line.proofs.Passengers.{counts-last, counts-next, pairs-over, leaving-over, aboard-over}
 use Rattle.line.proofs.Bounds.{arrival-le}
@@ -63,7 +62,7 @@ module _ (L : Line) (range : LineInRange L) where
       (λ t u v. inner-le k l t pos (omega arith) (omega arith) (omega arith)))
       (outer-le l (omega arith) (omega arith)))
 
-  pub range-of-line : InRange (bookOf L)
+  pub range-of-line : BookInRange (bookOf L)
   range-of-line =
       record {
         running = range .running;
@@ -88,32 +87,28 @@ module _ (L : Line) (range : LineInRange L) where
       either true h e = h
       either false h e = e
 
+  -- all who leave train t
+  train-le : (D : Day) → ((i : ℕ) → i ≤ L .trains → D .arrival i ≤ 92160) → (t : ℕ) → t ≤ L .trains
+      → over 1 (t + 1) (λ i. L .passengers i (t + 1) * counts L D i (t + 1)) ≤ leaving L 1 t * 92160
+  train-le D late t b =
+      le-trans
+      (over-le 1 (t + 1) _ (λ i. L .passengers i (t + 1) * 92160) (omega arith)
+      (λ i u v. mul-le-mul (le-refl _) (counts-le D late i t u (omega arith) b)))
+      (le-of-eq
+      (over-scale 1 (t + 1) (λ i. L .passengers i (t + 1)) 92160 (omega arith)
+      ∙ ap (λ (x : ℕ). x * 92160) (sym (leaving-over L 1 t))))
+
   -- No total can pass 1,916,928,000,000 passenger-minutes, under any policy.
   pub total-le : (p : Policy) → total L p ≤ 1916928000000
   unfolding total
   total-le p =
-      le-trans (le-of-eq (pairs-over L D 1 1))
+      let late = arrival-le (L .trains) (L .running) (range .running) p in
+      le-trans (le-of-eq (pairs-over L (dayOf (L .running) p) 1 1))
       (le-trans
-      (over-le 1 (L .trains + 1) _ (λ t. leaving L 1 t * 92160) (omega arith) (λ t u v. train-le t (omega arith)))
+      (over-le 1 (L .trains + 1) _ (λ t. leaving L 1 t * 92160) (omega arith)
+      (λ t u v. train-le (dayOf (L .running) p) late t (omega arith)))
       (omega (
         arith,
         over-scale 1 (L .trains + 1) (leaving L 1) 92160 (omega arith),
         leavers-of-line 1 (le-refl 1) (omega arith),
       )))
-    where
-      D : Day
-      D = dayOf (L .running) p
-
-      late : (i : ℕ) → i ≤ L .trains → arrival (L .running) p i ≤ 92160
-      late = arrival-le (L .trains) (L .running) (range .running) p
-
-      -- those who leave train t
-      train-le : (t : ℕ) → t ≤ L .trains
-          → over 1 (t + 1) (λ i. L .passengers i (t + 1) * counts L D i (t + 1)) ≤ leaving L 1 t * 92160
-      train-le t b =
-          le-trans
-          (over-le 1 (t + 1) _ (λ i. L .passengers i (t + 1) * 92160) (omega arith)
-          (λ i u v. mul-le-mul (le-refl _) (counts-le D late i t u (omega arith) b)))
-          (le-of-eq
-          (over-scale 1 (t + 1) (λ i. L .passengers i (t + 1)) 92160 (omega arith)
-          ∙ ap (λ (x : ℕ). x * 92160) (sym (leaving-over L 1 t))))

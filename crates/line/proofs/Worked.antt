@@ -1,7 +1,7 @@
 -- A worked table gives the plan, and each of its cells is what document 01 says that it is.
 -- Assumes nothing.
 use mathlib.Core.Path.{_≡_, ap, sym, _∙_}
-use mathlib.Core.Logic.{_⊎_, inl, inr}
+use mathlib.Core.Logic.{inl, inr}
 use Prim.Native.Nat.{ℕ, _+_, _-_, _≤_, _<_}
 use native.Mathlib.Nat.{le-of-eq, le-antisymm}
 use native.Mathlib.Omega.{arith}
@@ -99,11 +99,11 @@ module _ (L : Line) (c d : Table) (W : Worked (bookOf L) (L .trains) c d) where
       }
 
 -- a cell is one number
-pub cell-one : (L : Line) (k l m n : ℕ) → IsCell L k l m → IsCell L k l n → m ≡ n
-cell-one L k l m n M N =
+pub cell-one : (L : Line) (k l x y : ℕ) → IsCell L k l x → IsCell L k l y → x ≡ y
+cell-one L k l x y X Y =
     le-antisymm
-    (rw (N .attained) at (M .least (N .policy) (N .along)))
-    (rw (M .attained) at (N .least (M .policy) (M .along)))
+    (rw (Y .attained) at (X .least (Y .policy) (Y .along)))
+    (rw (X .attained) at (Y .least (X .policy) (X .along)))
 
 -- every line has a plan
 pub plan-exists : (L : Line) → IsPlan L (decide (bookOf L) (workedTable (bookOf L) (L .trains) (λ k l. 0)))

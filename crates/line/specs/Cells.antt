@@ -16,7 +16,7 @@ use mathlib.Core.Bool.{false}
 use Rattle.lists.specs.Choice.{ifBelow}
 use Rattle.line.specs.Sum.{sum_from_to_}
 use Rattle.line.specs.Line.{Running, Line}
-use Rattle.line.specs.Policy.{Decision, Keep, Go, Policy, under, arrival, departure, missed, dayOf, pairsTotal}
+use Rattle.line.specs.Policy.{Decision, Keep, Go, Policy, arrival, departure, missed, dayOf, pairsTotal}
 
 abbrev pub Table : Type 0
 Table = ℕ → ℕ → ℕ
@@ -105,6 +105,11 @@ prefer (suc e) keep go = ifBelow go keep Go Keep
 
 unfoldable pub choice : Book → Table → ℕ → ℕ → Decision
 choice B c k l = prefer (late (B .running) k l) (keepCost B c k l) (goCost B c k l)
+
+-- the first under keep, the second under go
+abbrev pub under : {A : Type 0} → Decision → A → A → A
+under Keep x y = x
+under Go x y = y
 
 -- The train with which the run begins that train i is on, where `rule k s` decides at station s on the run from k. The
 -- first run begins with train 1.

@@ -24,30 +24,29 @@ pub data Decision : Type 0 where
 abbrev pub Policy : Type 0
 Policy = ℕ → Decision
 
--- the first under keep, the second under go
-abbrev pub under : {A : Type 0} → Decision → A → A → A
-under Keep x y = x
-under Go x y = y
-
--- A train arrives by its departure delay, which is the excess under keep and 0 under go. No train comes before train 1:
--- it finds no excess and departs with delay 0 by this rule too.
-unfoldable pub arrival : Running → Policy → ℕ → ℕ
-arrival R p zero = 0
-arrival R p (suc i) = R .arrive (suc i) (under (p (suc i)) (arrival R p i - R .slack (suc i)) 0)
-
--- The arrival delay of train s - 1 less the slack, or 0 if that is negative.
-unfoldable pub excess : Running → Policy → ℕ → ℕ
-excess R p s = arrival R p (s - 1) - R .slack s
-
--- Under keep, train i departs late by exactly the excess. Under go, it departs with delay 0.
-unfoldable pub departure : Running → Policy → ℕ → ℕ
-departure R p i = under (p i) (excess R p i) 0
+-- Under keep, a train departs late by exactly the excess. Under go, it departs with delay 0.
+abbrev pub departs : Decision → ℕ → ℕ
+departs Keep e = e
+departs Go e = 0
 
 -- Under keep the transfer is maintained. Under go it is maintained when the excess is 0, and missed otherwise.
 abbrev pub misses : Decision → ℕ → Bool
 misses Keep e = false
 misses Go zero = false
 misses Go (suc e) = true
+
+-- A train arrives by its departure delay. No train comes before train 1: it finds no excess and departs with delay 0 by
+-- this rule too.
+unfoldable pub arrival : Running → Policy → ℕ → ℕ
+arrival R p zero = 0
+arrival R p (suc i) = R .arrive (suc i) (departs (p (suc i)) (arrival R p i - R .slack (suc i)))
+
+-- The arrival delay of train s - 1 less the slack, or 0 if that is negative.
+unfoldable pub excess : Running → Policy → ℕ → ℕ
+excess R p s = arrival R p (s - 1) - R .slack s
+
+unfoldable pub departure : Running → Policy → ℕ → ℕ
+departure R p i = departs (p i) (excess R p i)
 
 unfoldable pub missed : Running → Policy → ℕ → Bool
 missed R p s = misses (p s) (excess R p s)

@@ -1,7 +1,7 @@
 -- The most that the numbers of a line and of its sums may be, asked of the trains in use alone. Document 01, "The line
 -- and its numbers".
 --   LineInRange L   of a line: its trains, what a train adds to a delay, the period, the passengers of a pair
---   InRange B       the same of a book: all who leave the trains from k on, having boarded at k or later, are at most
+--   BookInRange B       the same of a book: all who leave the trains from k on, having boarded at k or later, are at most
 --                   2,080 pairs × 10,000
 -- Assumes nothing.
 use Prim.Native.Nat.{ℕ, _+_, _≤_, _<_}
@@ -9,17 +9,17 @@ use Rattle.line.specs.Sum.{sum_from_to_}
 use Rattle.line.specs.Line.{Running, Line}
 use Rattle.line.specs.Cells.{Book}
 
-pub record RunInRange (m : ℕ) (R : Running) : Type 0 where
+pub record RunningInRange (m : ℕ) (R : Running) : Type 0 where
   pub trains : m ≤ 64
-  pub arrive : (i late : ℕ) → 1 ≤ i → i ≤ m → R .arrive i late ≤ late + 1440
+  pub arrive : (i x : ℕ) → 1 ≤ i → i ≤ m → R .arrive i x ≤ x + 1440
 
 pub record LineInRange (L : Line) : Type 0 where
-  pub running : RunInRange (L .trains) (L .running)
+  pub running : RunningInRange (L .trains) (L .running)
   pub period : (s : ℕ) → 1 < s → s ≤ L .trains → L .period s ≤ 1440
   pub passengers : (i j : ℕ) → 1 ≤ i → i < j → j ≤ L .trains + 1 → L .passengers i j ≤ 10000
 
-pub record InRange (B : Book) : Type 0 where
-  pub running : RunInRange (B .trains) (B .running)
+pub record BookInRange (B : Book) : Type 0 where
+  pub running : RunningInRange (B .trains) (B .running)
   pub period : (s : ℕ) → 1 < s → s ≤ B .trains → B .period s ≤ 1440
   pub leaving : (k : ℕ) → 1 ≤ k → k ≤ B .trains → sum (B .leaving k) from k to (B .trains) ≤ 20800000
   pub aboard : (k l : ℕ) → 1 ≤ k → k < l → l ≤ B .trains → B .aboard k l ≤ 20800000

@@ -20,4 +20,4 @@ same-or-not a b = elim (lt-or-ge a b) [
 
 -- 0 is not 1: with this `cc` tells two constructors apart
 pub zero-not-one : {A : Type 0} → _≡_ {A = ℕ} 0 1 → A
-zero-not-one e = let no-way : ⊥ = omega arith in absurd no-way
+zero-not-one e = absurd (omega arith)
