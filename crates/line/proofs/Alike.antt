@@ -8,14 +8,15 @@ use native.Mathlib.Nat.{le-refl, le-of-eq, eq-or-lt-of-le}
 use native.Mathlib.Omega.{arith}
 use Rattle.lists.proofs.Induction.{up}
 use Rattle.line.specs.Line.{Running, Line}
-use Rattle.line.specs.Policy.{Decision, Keep, departure}
-use Rattle.line.specs.Cells.{Table, leaving, aboard, Book, bookOf, runFrom, late, reach, keepCost, goCost, worked}
-use Rattle.line.specs.Cells.{choice, under, begins, follow, decide}
+use Rattle.line.specs.Policy.{Decision, departure}
+use Rattle.line.specs.Cells.{Table, leaving, aboard, Book, bookOf, runFrom, excessOn, arrivalOn, keepCost, goCost}
+use Rattle.line.specs.Cells.{cellBy}
+use Rattle.line.specs.Cells.{choice, under, begins, policyBy, decide}
 use Rattle.line.specs.Alike.{LinesAlike, BooksAlike}
 use Rattle.line.proofs.Sums.{over, over-same}
 use Rattle.line.proofs.Passengers.{leaving-over, aboard-over}
 use Rattle.line.proofs.Days.{departures-alike, arrivals-alike, run-alike-refl}
-use Rattle.line.proofs.Along.{late-start}
+use Rattle.line.proofs.Along.{excess-on-start}
 use Rattle.line.proofs.Choices.{choice-keep, choice-start}
 use Rattle.line.proofs.Decided.{begins-next, begins-first, begins-le}
 
@@ -27,7 +28,7 @@ books-alike-later k j A B h alike =
       trains = alike .trains;
       running = record {
         slack = λ s a b. alike .running .slack s (omega arith) b;
-        arrive = λ i late a b. alike .running .arrive i late (omega arith) b;
+        arrive = λ i x a b. alike .running .arrive i x (omega arith) b;
       };
       period = λ s a b. alike .period s (omega arith) b;
       leaving = λ i l a b u. alike .leaving i l (omega arith) b u;
@@ -79,18 +80,18 @@ module _ (k : ℕ) (A B : Book) (pos : 1 ≤ k) (alike : BooksAlike k A B) where
   S = B .running
 
   first-departs-alike : departure R (runFrom k) k ≡ departure S (runFrom k) k
-  unfolding late
-  first-departs-alike = late-start R k k (le-refl k) ∙ sym (late-start S k k (le-refl k))
+  unfolding excessOn
+  first-departs-alike = excess-on-start R k k (le-refl k) ∙ sym (excess-on-start S k k (le-refl k))
 
-  pub late-alike : (l : ℕ) → k ≤ l → l ≤ A .trains → late R k l ≡ late S k l
-  unfolding late departure
-  late-alike l a b =
+  pub excess-on-alike : (l : ℕ) → k ≤ l → l ≤ A .trains → excessOn R k l ≡ excessOn S k l
+  unfolding excessOn departure
+  excess-on-alike l a b =
       departures-alike k (A .trains) R S (runFrom k) (runFrom k) pos (alike .running) first-departs-alike l a b
       (λ s c d e. rw e)
 
-  pub reach-alike : (l : ℕ) → k ≤ l → l ≤ A .trains → reach R k l ≡ reach S k l
-  unfolding reach departure
-  reach-alike l a b =
+  pub arrival-on-alike : (l : ℕ) → k ≤ l → l ≤ A .trains → arrivalOn R k l ≡ arrivalOn S k l
+  unfolding arrivalOn departure
+  arrival-on-alike l a b =
       arrivals-alike k (A .trains) R S (runFrom k) (runFrom k) pos (alike .running) first-departs-alike l a b
       (λ s c d e. rw e)
 
@@ -99,25 +100,25 @@ module _ (k : ℕ) (A B : Book) (pos : 1 ≤ k) (alike : BooksAlike k A B) where
       (next : c k (l + 1) ≡ d k (l + 1)) (first : k < l → c l l ≡ d l l) where
     keep-alike : keepCost A c k l ≡ keepCost B d k l
     unfolding keepCost
-    keep-alike = rw (alike .leaving k l (le-refl k) a b, reach-alike l a b, next)
+    keep-alike = rw (alike .leaving k l (le-refl k) a b, arrival-on-alike l a b, next)
 
     go-alike : k < l → goCost A c k l ≡ goCost B d k l
     unfolding goCost
     go-alike u = rw (alike .period l u b, alike .aboard k l (le-refl k) u b, first u)
 
-    pub worked-alike : worked A c k l ≡ worked B d k l
-    worked-alike = elim (eq-or-lt-of-le a) [
+    pub cell-by-alike : cellBy A c k l ≡ cellBy B d k l
+    cell-by-alike = elim (eq-or-lt-of-le a) [
       | inl e ↦
           let start : l ≤ k = le-of-eq (sym e) in
           choice-keep A c k l (choice-start A c k l start) ∙ keep-alike
           ∙ sym (choice-keep B d k l (choice-start B d k l start))
-      | inr u ↦ unfold worked in rw (late-alike l a b, keep-alike, go-alike u)
+      | inr u ↦ unfold cellBy in rw (excess-on-alike l a b, keep-alike, go-alike u)
     ]
 
     pub choice-alike : choice A c k l ≡ choice B d k l
     choice-alike = elim (eq-or-lt-of-le a) [
       | inl e ↦ choice-start A c k l (le-of-eq (sym e)) ∙ sym (choice-start B d k l (le-of-eq (sym e)))
-      | inr u ↦ unfold choice in rw (late-alike l a b, keep-alike, go-alike u)
+      | inr u ↦ unfold choice in rw (excess-on-alike l a b, keep-alike, go-alike u)
     ]
 
 -- ---- decisions
@@ -143,7 +144,7 @@ module _ (A B : Book) (c d : Table) (alike : BooksAlike 1 A B)
 
   -- the policies that are read off are alike on the trains in use
   pub decide-alike : (s : ℕ) → 2 ≤ s → s ≤ A .trains → decide A c s ≡ decide B d s
-  unfolding decide follow
+  unfolding decide policyBy
   decide-alike s a b =
       let in-line = begins-le (choice B d) (s - 1) (omega arith) in
       ap (λ (k : ℕ). choice A c k s) (begins-alike (s - 1) (omega arith) (omega arith))

@@ -9,7 +9,7 @@ use Rattle.lists.proofs.Choice.{below-yes, below-no, true-or-false}
 use Rattle.lists.proofs.Induction.{up}
 use Rattle.line.specs.Line.{Running}
 use Rattle.line.specs.Policy.{Keep, Go, Policy, arrival, excess, departure, missed, Day, dayOf}
-use Rattle.line.specs.Cells.{Along, runFrom, late, reach}
+use Rattle.line.specs.Cells.{Along, runFrom, excessOn, arrivalOn}
 use Rattle.line.proofs.Following.{arrival-departed, excess-next, keep-departs, go-departs, missed-when}
 use Rattle.line.proofs.Following.{maintained-departs}
 use Rattle.line.proofs.Days.{arrivals-alike, excesses-alike, run-alike-refl}
@@ -28,22 +28,22 @@ module _ (R : Running) (k : ℕ) where
   run-keeps i l = below-yes Keep Go l
 
   -- it begins on time
-  pub late-start : (l : ℕ) → l ≤ k → late R k l ≡ 0
-  unfolding late
-  late-start l h = go-departs R (runFrom k) l (run-goes l h)
+  pub excess-on-start : (l : ℕ) → l ≤ k → excessOn R k l ≡ 0
+  unfolding excessOn
+  excess-on-start l h = go-departs R (runFrom k) l (run-goes l h)
 
-  late-excess : (l : ℕ) → k < l → late R k l ≡ excess R (runFrom k) l
-  unfolding late
-  late-excess l h = keep-departs R (runFrom k) l (run-keeps l h)
+  excess-on-keeps : (l : ℕ) → k < l → excessOn R k l ≡ excess R (runFrom k) l
+  unfolding excessOn
+  excess-on-keeps l h = keep-departs R (runFrom k) l (run-keeps l h)
 
   -- and goes on: the excess is what the slack leaves of the arrival delay
-  pub late-next : (l : ℕ) → k ≤ l → late R k (l + 1) ≡ reach R k l - R .slack (l + 1)
-  unfolding reach
-  late-next l h = late-excess (l + 1) (omega arith) ∙ excess-next R (runFrom k) l
+  pub excess-on-next : (l : ℕ) → k ≤ l → excessOn R k (l + 1) ≡ arrivalOn R k l - R .slack (l + 1)
+  unfolding arrivalOn
+  excess-on-next l h = excess-on-keeps (l + 1) (omega arith) ∙ excess-next R (runFrom k) l
 
-  pub reach-late : (l : ℕ) → 1 ≤ l → reach R k l ≡ R .arrive l (late R k l)
-  unfolding reach late
-  reach-late l h = arrival-departed R (runFrom k) l h
+  pub arrival-on-departed : (l : ℕ) → 1 ≤ l → arrivalOn R k l ≡ R .arrive l (excessOn R k l)
+  unfolding arrivalOn excessOn
+  arrival-on-departed l h = arrival-departed R (runFrom k) l h
 
   -- a policy along that run is late as it is, and arrives as it does
   module _ (p : Policy) (l : ℕ) (pos : 1 ≤ k) (on : Along R p k l) where
@@ -56,17 +56,17 @@ module _ (R : Running) (k : ℕ) where
         maintained-departs R p s (on .maintained s c (omega arith)) ∙ e
         ∙ sym (keep-departs R (runFrom k) s (run-keeps s c))
 
-    pub along-arrives : (n : ℕ) → k ≤ n → n < l → arrival R p n ≡ reach R k n
-    unfolding reach
+    pub along-arrives : (n : ℕ) → k ≤ n → n < l → arrival R p n ≡ arrivalOn R k n
+    unfolding arrivalOn
     along-arrives n a b =
         arrivals-alike k n R R p (runFrom k) pos (run-alike-refl k n R) first-departs-alike
         n a (le-refl n) (departs-alike n b)
 
-    pub along-excess : k < l → excess R p l ≡ late R k l
+    pub along-excess : k < l → excess R p l ≡ excessOn R k l
     along-excess h =
         excesses-alike k l R R p (runFrom k) pos (run-alike-refl k l R) first-departs-alike
         (l - 1) l (omega arith) (omega arith) (omega arith) (departs-alike (l - 1) (omega arith))
-        ∙ sym (late-excess l h)
+        ∙ sym (excess-on-keeps l h)
 
 -- ---- a policy along its own runs, train k departing with delay 0
 
@@ -89,13 +89,13 @@ module _ (R : Running) (p : Policy) (k : ℕ) (pos : 1 ≤ k) (on-time : departu
             | inr m ↦ rw (start-maintained D k j m) e
           ])
 
-  pub start-arrives : (s : ℕ) → k ≤ s → arrival R p s ≡ reach R (start (s + 1)) s
+  pub start-arrives : (s : ℕ) → k ≤ s → arrival R p s ≡ arrivalOn R (start (s + 1)) s
   start-arrives s a =
       let next = start-le D k (s + 1) (omega arith) in
       along-arrives R (start (s + 1)) p (s + 1) (omega arith) (along-start (s + 1) (omega arith)) s
       (start-before D k s a) (omega arith)
 
-  pub start-excess : (s : ℕ) → k ≤ s → start s < s → excess R p s ≡ late R (start s) s
+  pub start-excess : (s : ℕ) → k ≤ s → start s < s → excess R p s ≡ excessOn R (start s) s
   start-excess s a l =
       let begin = start-le D k s a in
       along-excess R (start s) p s (omega arith) (along-start s a) l

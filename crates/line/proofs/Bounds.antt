@@ -8,14 +8,14 @@ use native.Mathlib.Omega.{arith}
 use Rattle.lists.proofs.Induction.{up}
 use Rattle.line.specs.Line.{Running}
 use Rattle.line.specs.Policy.{Decision, Keep, Go, Policy, departs, arrival, departure}
-use Rattle.line.specs.Cells.{Table, Book, runFrom, reach, keepCost, goCost, Worked}
+use Rattle.line.specs.Cells.{Table, Book, runFrom, arrivalOn, keepCost, goCost, Worked}
 use Rattle.line.specs.Alike.{BooksAlike}
 use Rattle.line.specs.Sum.{sum_from_to_}
 use Rattle.line.specs.Ranges.{RunningInRange, BookInRange}
 use Rattle.line.proofs.Sums.{over, sum-over, over-first, over-split, over-same, over-scale, over-le}
 use Rattle.line.proofs.Sums.{falls-within}
 use Rattle.line.proofs.Following.{arrival-departed, excess-next}
-use Rattle.line.proofs.Choices.{worked-le-keep}
+use Rattle.line.proofs.Choices.{cell-by-le-keep}
 
 -- ---- delays
 
@@ -46,9 +46,9 @@ module _ (m : ℕ) (R : Running) (range : RunningInRange m R) (p : Policy) where
 
 -- ---- cells
 
-pub reach-le : (m : ℕ) (R : Running) → RunningInRange m R → (k l : ℕ) → l ≤ m → reach R k l ≤ 92160
-unfolding reach
-reach-le m R range k = arrival-le m R range (runFrom k)
+pub arrival-on-le : (m : ℕ) (R : Running) → RunningInRange m R → (k l : ℕ) → l ≤ m → arrivalOn R k l ≤ 92160
+unfolding arrivalOn
+arrival-on-le m R range k = arrival-le m R range (runFrom k)
 
 -- a worked cell is at most all who leave from l on, times the largest delay, whatever stands in the later rows
 pub row-le : (B : Book) → RunningInRange (B .trains) (B .running) → (t : ℕ) (c d : Table) → Worked B t c d
@@ -59,15 +59,15 @@ row-le B run t c d W k l pos h a b =
       W .last k,
       falls-within l (B .trains + 1) cost (d k) (omega arith) (λ s u v. keep s (omega arith) (omega arith)),
       over-le l (B .trains + 1) cost (λ s. B .leaving k s * 92160) (omega arith)
-          (λ s u v. mul-le-mul (le-refl (B .leaving k s)) (reach-le (B .trains) (B .running) run k s (omega arith))),
+          (λ s u v. mul-le-mul (le-refl (B .leaving k s)) (arrival-on-le (B .trains) (B .running) run k s (omega arith))),
       over-scale l (B .trains + 1) (B .leaving k) 92160 (omega arith),
     )
   where
     cost : ℕ → ℕ
-    cost s = B .leaving k s * reach (B .running) k s
+    cost s = B .leaving k s * arrivalOn (B .running) k s
 
-    keep : (s : ℕ) → k ≤ s → s ≤ B .trains → d k s ≤ B .leaving k s * reach (B .running) k s + d k (s + 1)
-    keep s u v = le-trans (le-of-eq (W .anew k s pos h u v)) (unfold keepCost in worked-le-keep B d k s)
+    keep : (s : ℕ) → k ≤ s → s ≤ B .trains → d k s ≤ B .leaving k s * arrivalOn (B .running) k s + d k (s + 1)
+    keep s u v = le-trans (le-of-eq (W .anew k s pos h u v)) (unfold keepCost in cell-by-le-keep B d k s)
 
 module _ (B : Book) (range : BookInRange B) (k : ℕ) (pos : 1 ≤ k) where
   -- all who leave from l on
@@ -91,7 +91,7 @@ module _ (B : Book) (range : BookInRange B) (k : ℕ) (pos : 1 ≤ k) where
   -- the two choices, over the cells on which they rest
   pub keep-le : (c : Table) (l : ℕ) → k ≤ l → l ≤ B .trains → keepCost B c k l ≤ 1916928000000 + c k (l + 1)
   unfolding keepCost
-  keep-le c l a b = omega (arith, mul-le-mul (leaving-le l a b) (reach-le _ _ (range .running) k l b))
+  keep-le c l a b = omega (arith, mul-le-mul (leaving-le l a b) (arrival-on-le _ _ (range .running) k l b))
 
   pub go-le : (c : Table) (l : ℕ) → k < l → l ≤ B .trains → goCost B c k l ≤ 29952000000 + c l l
   unfolding goCost

@@ -8,9 +8,9 @@ use native.Mathlib.Omega.{arith}
 use Rattle.lists.proofs.Choice.{below-yes, below-no}
 use Rattle.lists.proofs.Order.{lt-or-ge}
 use Rattle.line.specs.Policy.{Keep, Go}
-use Rattle.line.specs.Cells.{Table, Book, late, keepCost, goCost, lesser, worked, Worked, prefer, choice}
+use Rattle.line.specs.Cells.{Table, Book, excessOn, keepCost, goCost, lesser, cellBy, Worked, prefer, choice}
 use Rattle.line.proofs.Following.{keep-not-go}
-use Rattle.line.proofs.Along.{late-start}
+use Rattle.line.proofs.Along.{excess-on-start}
 
 -- ---- the lesser choice and the preferred one
 
@@ -38,33 +38,33 @@ module _ (x y : ℕ) where
   ]
 
 module _ (B : Book) (c : Table) (k l : ℕ) where
-  pub worked-le-keep : worked B c k l ≤ keepCost B c k l
-  unfolding worked
-  worked-le-keep = lesser-le-keep (keepCost B c k l) (goCost B c k l) (late (B .running) k l)
+  pub cell-by-le-keep : cellBy B c k l ≤ keepCost B c k l
+  unfolding cellBy
+  cell-by-le-keep = lesser-le-keep (keepCost B c k l) (goCost B c k l) (excessOn (B .running) k l)
 
-  pub worked-le-go : 0 < late (B .running) k l → worked B c k l ≤ goCost B c k l
-  unfolding worked
-  worked-le-go = lesser-le-go (keepCost B c k l) (goCost B c k l) (late (B .running) k l)
+  pub cell-by-le-go : 0 < excessOn (B .running) k l → cellBy B c k l ≤ goCost B c k l
+  unfolding cellBy
+  cell-by-le-go = lesser-le-go (keepCost B c k l) (goCost B c k l) (excessOn (B .running) k l)
 
   -- Where the excess is 0 only keep is a choice.
-  pub choice-no-excess : late (B .running) k l ≡ 0 → choice B c k l ≡ Keep
+  pub choice-no-excess : excessOn (B .running) k l ≡ 0 → choice B c k l ≡ Keep
   unfolding choice
   choice-no-excess e = rw e
 
-  -- keep is chosen where it is no more than go,
-  pub choice-keep : choice B c k l ≡ Keep → worked B c k l ≡ keepCost B c k l
-  unfolding choice worked
-  choice-keep = prefer-keep (keepCost B c k l) (goCost B c k l) (late (B .running) k l)
+  -- where keep is chosen the cell is what keep costs,
+  pub choice-keep : choice B c k l ≡ Keep → cellBy B c k l ≡ keepCost B c k l
+  unfolding choice cellBy
+  choice-keep = prefer-keep (keepCost B c k l) (goCost B c k l) (excessOn (B .running) k l)
 
-  -- and go where it is less and there is an excess
+  -- and where go is, what go costs, which is less, and there is an excess
   pub choice-go : choice B c k l ≡ Go
-      → (worked B c k l ≡ goCost B c k l) × (goCost B c k l < keepCost B c k l) × (0 < late (B .running) k l)
-  unfolding choice worked
-  choice-go = prefer-go (keepCost B c k l) (goCost B c k l) (late (B .running) k l)
+      → (cellBy B c k l ≡ goCost B c k l) × (goCost B c k l < keepCost B c k l) × (0 < excessOn (B .running) k l)
+  unfolding choice cellBy
+  choice-go = prefer-go (keepCost B c k l) (goCost B c k l) (excessOn (B .running) k l)
 
 -- where a run begins only keep is a choice
 pub choice-start : (B : Book) (c : Table) (k l : ℕ) → l ≤ k → choice B c k l ≡ Keep
-choice-start B c k l h = choice-no-excess B c k l (late-start (B .running) k l h)
+choice-start B c k l h = choice-no-excess B c k l (excess-on-start (B .running) k l h)
 
 pub cell-start : (B : Book) (t : ℕ) (c d : Table) → Worked B t c d → (l : ℕ) → 1 ≤ l → l ≤ t → l ≤ B .trains
     → d l l ≡ keepCost B d l l

@@ -88,7 +88,7 @@ module _ (k m : ℕ) (R S : Running) (p q : Policy) (pos : 1 ≤ k) (run : Runni
             (excesses-alike (s - 1) s (omega arith) (omega arith) (omega arith) (λ r c d. departs r c (omega arith)));
       }
 
--- under policies alike after train k they are
+-- under policies alike after train k the days are alike
 pub policies-alike : (k m : ℕ) (R S : Running) (p q : Policy) → 1 ≤ k → RunningAlike k m R S
     → departure R p k ≡ departure S q k → ((s : ℕ) → k < s → s ≤ m → p s ≡ q s)
     → DaysAlike k m (dayOf R p) (dayOf S q)
@@ -97,7 +97,7 @@ policies-alike k m R S p q pos run begin same =
     days-alike k m R S p q pos run begin (λ s a b e. rw (same s a b, e)) (λ s a b e. rw (same s a b, e))
 
 pub run-alike-refl : (k m : ℕ) (R : Running) → RunningAlike k m R R
-run-alike-refl k m R = record { slack = λ s a b. refl; arrive = λ i late a b. refl }
+run-alike-refl k m R = record { slack = λ s a b. refl; arrive = λ i x a b. refl }
 
 pub lines-alike-refl : (k : ℕ) (L : Line) → LinesAlike k L L
 lines-alike-refl k L =

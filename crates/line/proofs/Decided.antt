@@ -13,7 +13,7 @@ use Rattle.lists.proofs.Order.{lt-or-ge}
 use Rattle.lists.proofs.Induction.{up}
 use Rattle.line.specs.Line.{Running}
 use Rattle.line.specs.Policy.{Decision, Keep, Go, Policy, arrival, excess, departure, missed, Day, dayOf}
-use Rattle.line.specs.Cells.{Table, Along, Book, reach, choice, under, begins, follow, decide}
+use Rattle.line.specs.Cells.{Table, Along, Book, arrivalOn, choice, under, begins, policyBy, decide}
 use Rattle.line.proofs.Following.{keep-or-go, keep-not-go, first-on-time, go-departs}
 use Rattle.line.proofs.Following.{keep-maintains, go-misses}
 use Rattle.line.proofs.Starts.{startOf, start-le, start-earlier, start-missed, start-maintained, start-second}
@@ -45,9 +45,9 @@ module _ (rule : ℕ → ℕ → Decision) where
   pub begins-next : (i : ℕ) → begins rule (i + 1) ≡ under (rule (begins rule i) (i + 1)) (begins rule i) (i + 1)
   begins-next i = let e : i + 1 ≡ suc i = omega arith in rw e (unfold begins in refl)
 
-  pub follow-next : (i : ℕ) → follow rule (i + 1) ≡ rule (begins rule i) (i + 1)
-  unfolding follow
-  follow-next i = let e : i + 1 - 1 ≡ i = omega arith in ap (λ (j : ℕ). rule (begins rule j) (i + 1)) e
+  pub policy-by-next : (i : ℕ) → policyBy rule (i + 1) ≡ rule (begins rule i) (i + 1)
+  unfolding policyBy
+  policy-by-next i = let e : i + 1 - 1 ≡ i = omega arith in ap (λ (j : ℕ). rule (begins rule j) (i + 1)) e
 
   -- The first run begins with train 1.
   pub begins-first : begins rule 1 ≡ 1
@@ -58,7 +58,7 @@ module _ (rule : ℕ → ℕ → Decision) where
       either Keep = refl
       either Go = refl
 
-  -- a run begins with one of its trains or before
+  -- the run of train i begins with one of trains 1 to i
   pub begins-le : (i : ℕ) → 1 ≤ i → (1 ≤ begins rule i) × (begins rule i ≤ i)
   begins-le i a =
       up (λ (j : ℕ). (1 ≤ begins rule j) × (begins rule j ≤ j)) 1 i a
@@ -71,7 +71,7 @@ module _ (rule : ℕ → ℕ → Decision) where
 -- The rule lets train k depart with delay 0 and begin a run, keeps that run up to station l, and from there on does
 -- what the cells say.
 pub record Obeys (B : Book) (c : Table) (k l : ℕ) (rule : ℕ → ℕ → Decision) : Type 0 where
-  pub on-time : departure (B .running) (follow rule) k ≡ 0
+  pub on-time : departure (B .running) (policyBy rule) k ≡ 0
   pub first : begins rule k ≡ k
   pub before : (j s : ℕ) → k < s → s < l → rule j s ≡ Keep
   pub after : (j s : ℕ) → k < s → l ≤ s → rule j s ≡ choice B c j s
@@ -81,19 +81,19 @@ module _ (B : Book) (c : Table) (k l : ℕ) (rule : ℕ → ℕ → Decision) (p
   R = B .running
 
   abbrev p : Policy
-  p = follow rule
+  p = policyBy rule
 
   abbrev D : Day
-  D = dayOf (B .running) (follow rule)
+  D = dayOf (B .running) (policyBy rule)
 
   pub obeys-along : Along R p k l
-  unfolding follow
+  unfolding policyBy
   obeys-along =
       record { on-time = obeys .on-time; maintained = λ s u v. keep-maintains R p s (obeys .before _ s u v) }
 
   -- a go of the rule is a miss, on runs that are its policy's
-  gone : (s : ℕ) → k < s → (j : ℕ) → j ≡ startOf D k s → rule j s ≡ Go → p s ≡ Go → missed R p s ≡ true
-  gone s a j e go same = elim (lt-or-ge s l) [
+  rule-go-misses : (s : ℕ) → k < s → (j : ℕ) → j ≡ startOf D k s → rule j s ≡ Go → p s ≡ Go → missed R p s ≡ true
+  rule-go-misses s a j e go same = elim (lt-or-ge s l) [
     | inl x ↦ keep-not-go (sym (obeys .before j s a x) ∙ go)
     | inr x ↦
         let chosen = ap (λ (i : ℕ). choice B c i s) (sym e) ∙ sym (obeys .after j s a x) ∙ go in
@@ -107,15 +107,15 @@ module _ (B : Book) (c : Table) (k l : ℕ) (rule : ℕ → ℕ → Decision) (p
       (λ j v w e. begins-next rule j ∙ (elim (keep-or-go (rule (begins rule j) (j + 1))) [
         | inl keep ↦
             under-keep _ _ keep ∙ e
-            ∙ sym (start-maintained D k (j + 1) (keep-maintains R p (j + 1) (follow-next rule j ∙ keep)))
+            ∙ sym (start-maintained D k (j + 1) (keep-maintains R p (j + 1) (policy-by-next rule j ∙ keep)))
         | inr go ↦
-            let missed = gone (j + 1) (omega arith) (begins rule j) e go (follow-next rule j ∙ go) in
+            let missed = rule-go-misses (j + 1) (omega arith) (begins rule j) e go (policy-by-next rule j ∙ go) in
             under-go _ _ go ∙ sym (start-missed D k (j + 1) (omega arith) missed)
       ]))
 
   -- so the policy does what the cells say on its own runs
   pub obeys-does : (s : ℕ) → k < s → l ≤ s → p s ≡ choice B c (startOf D k s) s
-  unfolding follow
+  unfolding policyBy
   obeys-does s u v =
       let here : s - 1 + 1 ≡ s = omega arith in
       obeys .after (begins rule (s - 1)) s u v
@@ -128,7 +128,7 @@ module _ (B : Book) (c : Table) where
   pub cells-obey : Obeys B c 1 1 (choice B c)
   cells-obey =
       record {
-        on-time = first-on-time (B .running) (follow (choice B c));
+        on-time = first-on-time (B .running) (policyBy (choice B c));
         first = begins-first (choice B c);
         before = λ j s u v. absurd (omega arith);
         after = λ j s u v. refl;
@@ -150,7 +150,7 @@ module _ (B : Book) (c : Table) where
   unfolding fromCell
   from-cell-obeys k l pos =
       record {
-        on-time = go-departs (B .running) (follow (fromCell k l)) k (unfold follow in goes-at k l _);
+        on-time = go-departs (B .running) (policyBy (fromCell k l)) k (unfold policyBy in goes-at k l _);
         first = begins-at k l pos;
         before = λ j s u v. below-yes _ _ u ∙ below-yes _ _ v;
         after = λ j s u v. below-yes _ _ u ∙ below-no _ _ v;
@@ -164,11 +164,11 @@ module _ (B : Book) (c : Table) where
 
   -- each train arrives as on the run that it is on,
   pub decided-arrives : (i : ℕ) → 1 ≤ i
-      → arrival (B .running) decided i ≡ reach (B .running) (begins (choice B c) i) i
+      → arrival (B .running) decided i ≡ arrivalOn (B .running) (begins (choice B c) i) i
   unfolding decide
   decided-arrives i a =
       start-arrives (B .running) decided 1 (omega arith) (cells-obey B c .on-time) i a
-      ∙ ap (λ (j : ℕ). reach (B .running) j i)
+      ∙ ap (λ (j : ℕ). arrivalOn (B .running) j i)
       (sym (begins-start B c 1 1 (choice B c) (omega arith) (cells-obey B c) i a))
 
   -- and a station with excess 0 shows keep

@@ -11,14 +11,14 @@ use Rattle.lists.specs.Choice.{if_then_else_}
 use Rattle.lists.proofs.Choice.{if-no, true-or-false}
 use Rattle.line.specs.Line.{Running, Line}
 use Rattle.line.specs.Policy.{Keep, Policy, departure, missed, Day, dayOf, pairsTotal}
-use Rattle.line.specs.Cells.{Table, Along, aboard, Book, bookOf, late, keepCost, goCost, worked, Worked, choice}
+use Rattle.line.specs.Cells.{Table, Along, aboard, Book, bookOf, keepCost, goCost, cellBy, Worked, choice}
 use Rattle.line.proofs.Sums.{over, sum-over, over-none, over-zero, falls-equal, falls-within, falls-each}
 use Rattle.line.proofs.Passengers.{aboard-over}
 use Rattle.line.proofs.Following.{keep-or-go, keep-maintains, missed-when}
 use Rattle.line.proofs.Starts.{startOf, start-le, start-first, start-missed, start-maintained, start-through}
 use Rattle.line.proofs.Runs.{runCost, pairs-by-runs}
 use Rattle.line.proofs.Along.{start-arrives, start-excess}
-use Rattle.line.proofs.Choices.{worked-le-keep, worked-le-go, choice-keep, choice-go, cell-start}
+use Rattle.line.proofs.Choices.{cell-by-le-keep, cell-by-le-go, choice-keep, choice-go, cell-start}
 use Rattle.line.proofs.Decided.{goes-missed}
 
 -- nobody is aboard where a run begins
@@ -50,7 +50,7 @@ module _ (L : Line) (c d : Table) (W : Worked (bookOf L) (L .trains) c d) where
     price : ℕ → ℕ
     price s = if missed R p s then goCost B d (start s) s else keepCost B d (start s) s
 
-    cell-worked : (s : ℕ) → k ≤ s → s ≤ L .trains → cellAt s ≡ worked B d (start s) s
+    cell-worked : (s : ℕ) → k ≤ s → s ≤ L .trains → cellAt s ≡ cellBy B d (start s) s
     unfolding cellAt
     cell-worked s a b =
         let begin = start-le D k s a in
@@ -75,10 +75,10 @@ module _ (L : Line) (c d : Table) (W : Worked (bookOf L) (L .trains) c d) where
       | inl m ↦ elim (eq-or-lt-of-le (start-le D k s a .1)) [
         | inl e ↦ unfold cellAt in rw (m, e) (unfold goCost in omega arith)
         | inr l ↦
-            let late : 0 < late R (start s) s = rw (start-excess R p k pos on-time s a l) at (missed-when R p s m .1) in
-            rw (m, cell-worked s a b) (worked-le-go B d (start s) s late)
+            let late = rw (start-excess R p k pos on-time s a l) at (missed-when R p s m .1) in
+            rw (m, cell-worked s a b) (cell-by-le-go B d (start s) s late)
       ]
-      | inr m ↦ rw (m, cell-worked s a b) (worked-le-keep B d (start s) s)
+      | inr m ↦ rw (m, cell-worked s a b) (cell-by-le-keep B d (start s) s)
     ]
 
     -- is the price where a run begins with train k,
@@ -156,8 +156,8 @@ module _ (L : Line) (c d : Table) (W : Worked (bookOf L) (L .trains) c d) where
     keeps-as-cells most s u v keep = elim (keep-or-go (choice B d (startOf day k s) s)) [
       | inl e ↦ e
       | inr go ↦
-          let worked = cell-worked p k pos (on .on-time) s (omega arith) v in
-          absurd (omega (arith, tight, worked, choice-go B d (startOf day k s) s go))
+          let here = cell-worked p k pos (on .on-time) s (omega arith) v in
+          absurd (omega (arith, tight, here, choice-go B d (startOf day k s) s go))
     ]
       where
         tight : keepCost B d (startOf day k s) s ≤ cell s

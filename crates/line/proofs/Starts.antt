@@ -1,6 +1,6 @@
 -- Where runs begin: those who board at station k or later ride on the run that began with the last missed train, or
 -- with train k.
---   startOf D k s   the train with which the run begins that reaches station s
+--   startOf D k s   the first train of the run that reaches station s
 -- Assumes nothing.
 use mathlib.Core.Path.{_≡_, ap, sym, _∙_}
 use mathlib.Core.Bool.{Bool, true, false, true≢false}

@@ -1,4 +1,4 @@
--- Worked tables: there is one and no other, and one that is worked anew up to row t after a change of train t alone is
+-- Worked tables: there is one and no other, and one that is worked anew up to row t after a change of trains up to t is
 -- the worked table of the changed line.
 -- Assumes nothing.
 use mathlib.Core.Path.{_≡_, refl, ap, sym, _∙_}
@@ -10,10 +10,10 @@ use Rattle.lists.specs.Choice.{ifBelow}
 use Rattle.lists.proofs.Choice.{below-yes, below-no}
 use Rattle.lists.proofs.Order.{lt-or-ge}
 use Rattle.lists.proofs.Induction.{down}
-use Rattle.line.specs.Cells.{Table, Book, late, reach, keepCost, goCost, lesser, worked, Worked}
+use Rattle.line.specs.Cells.{Table, Book, excessOn, arrivalOn, keepCost, goCost, lesser, cellBy, Worked}
 use Rattle.line.specs.Alike.{BooksAlike}
-use Rattle.line.proofs.Along.{late-start}
-use Rattle.line.proofs.Alike.{books-alike-later, books-alike-refl, worked-alike}
+use Rattle.line.proofs.Along.{excess-on-start}
+use Rattle.line.proofs.Alike.{books-alike-later, books-alike-refl, cell-by-alike}
 
 -- worked by a book, worked by one alike
 pub worked-for-alike : (t : ℕ) (A B : Book) (c d : Table) → BooksAlike 1 A B → Worked A t c d → Worked B t c d
@@ -23,7 +23,7 @@ worked-for-alike t A B c d alike W =
       anew = λ k l pos u a b.
           let b′ : l ≤ A .trains = omega (arith, alike .trains) in
           W .anew k l pos u a b′
-          ∙ worked-alike k A B pos (books-alike-later 1 k A B pos alike) d d l a b′ refl (λ v. refl);
+          ∙ cell-by-alike k A B pos (books-alike-later 1 k A B pos alike) d d l a b′ refl (λ v. refl);
       stand = λ k l u a b. W .stand k l u a (omega (arith, alike .trains));
     }
 
@@ -38,7 +38,7 @@ module _ (B : Book) (t : ℕ) (c₁ c₂ d₁ d₂ : Table) (W₁ : Worked B t c
     | inl u ↦ W₁ .stand k l u a b ∙ rows k l u a b ∙ sym (W₂ .stand k l u a b)
     | inr u ↦
         W₁ .anew k l pos u a b
-        ∙ worked-alike k B B pos (books-alike-refl k B) d₁ d₂ l a b next first
+        ∙ cell-by-alike k B B pos (books-alike-refl k B) d₁ d₂ l a b next first
         ∙ sym (W₂ .anew k l pos u a b)
   ]
 
@@ -67,12 +67,12 @@ module _ (t : ℕ) (A B : Book) (b c d : Table) (alike : BooksAlike (t + 1) A B)
   ]
 
   -- the later rows are worked already: they do not read trains up to t
-  later-worked : (k l : ℕ) → 1 ≤ k → t < k → k ≤ l → l ≤ B .trains → d k l ≡ worked B d k l
+  later-worked : (k l : ℕ) → 1 ≤ k → t < k → k ≤ l → l ≤ B .trains → d k l ≡ cellBy B d k l
   later-worked k l pos u a v =
       let v′ : l ≤ A .trains = omega (arith, alike .trains) in
       new .stand k l u a v
       ∙ old .anew k l pos (omega arith) a v′
-      ∙ worked-alike k A B pos (books-alike-later (t + 1) k A B (omega arith) alike) c d l a v′
+      ∙ cell-by-alike k A B pos (books-alike-later (t + 1) k A B (omega arith) alike) c d l a v′
       (next-stands k l u a v) (λ w. sym (new .stand l l (omega arith) (le-refl l) v))
 
   pub reworked-is-worked : (x : Table) → Worked B (B .trains) x d
@@ -88,15 +88,15 @@ module _ (t : ℕ) (A B : Book) (b c d : Table) (alike : BooksAlike (t + 1) A B)
 
 -- ---- there is one
 
--- The worked table by columns: the cells of the column with r trains after it. A row that is worked anew begins with
--- keep.
+-- The worked table by columns from the last: column B t c n k is cell (k, m + 1 - n). A row that is worked anew begins
+-- with keep.
 unfoldable column : Book → ℕ → Table → ℕ → ℕ → ℕ
 column B t c zero k = 0
 column B t c (suc r) k =
     let l = B .trains - r in
-    let keep : ℕ → ℕ = λ j. B .leaving j l * reach (B .running) j l + column B t c r j in
+    let keep : ℕ → ℕ = λ j. B .leaving j l * arrivalOn (B .running) j l + column B t c r j in
     let first = ifBelow t l (c l l) (keep l) in
-    ifBelow t k (c k l) (lesser (late (B .running) k l) (keep k) (B .period l * B .aboard k l + first))
+    ifBelow t k (c k l) (lesser (excessOn (B .running) k l) (keep k) (B .period l * B .aboard k l + first))
 
 module _ (B : Book) (t : ℕ) (c : Table) where
   pub workedTable : Table
@@ -110,7 +110,7 @@ module _ (B : Book) (t : ℕ) (c : Table) where
   begin l = ifBelow t l (c l l) (keep l l)
 
   table-next : (k l : ℕ) → l ≤ B .trains → workedTable k l
-      ≡ ifBelow t k (c k l) (lesser (late (B .running) k l) (keep k l) (B .period l * B .aboard k l + begin l))
+      ≡ ifBelow t k (c k l) (lesser (excessOn (B .running) k l) (keep k l) (B .period l * B .aboard k l + begin l))
   unfolding column keepCost workedTable begin
   table-next k l b =
       let left : B .trains + 1 - l ≡ suc (B .trains - l) = omega arith in
@@ -122,7 +122,7 @@ module _ (B : Book) (t : ℕ) (c : Table) where
   unfolding begin
   begin-is l b = elim (lt-or-ge t l) [
     | inl u ↦ rw (table-next l l b, below-yes (c l l) (keep l l) u) (sym (below-yes _ _ u))
-    | inr u ↦ rw (table-next l l b, late-start (B .running) l l (le-refl l), below-no (c l l) (keep l l) u)
+    | inr u ↦ rw (table-next l l b, excess-on-start (B .running) l l (le-refl l), below-no (c l l) (keep l l) u)
   ]
 
   table-last : (k : ℕ) → workedTable k (B .trains + 1) ≡ 0
@@ -130,7 +130,7 @@ module _ (B : Book) (t : ℕ) (c : Table) where
   table-last k = let none : B .trains + 1 - (B .trains + 1) ≡ 0 = omega arith in rw none
 
   pub worked-exists : Worked B t c workedTable
-  unfolding worked goCost
+  unfolding cellBy goCost
   worked-exists =
       record {
         last = table-last;

@@ -17,7 +17,7 @@ use Rattle.line.proofs.Passengers.{counts-last, counts-next, pairs-over
 use Rattle.line.proofs.Bounds.{arrival-le}
 
 module _ (L : Line) (range : LineInRange L) where
-  -- some of those who leave train t
+  -- those who board at k to l - 1 and leave train t
   inner-le : (k l t : ℕ) → 1 ≤ k → k ≤ l → l ≤ t + 1 → t ≤ L .trains
       → over k l (λ i. L .passengers i (t + 1)) ≤ t * 10000
   inner-le k l t pos a b u =
@@ -31,7 +31,7 @@ module _ (L : Line) (range : LineInRange L) where
           (omega (arith, over-none l l (λ j. 10000) (le-refl l)))
           (λ i v w e. omega (arith, e, over-first i l (λ j. 10000) w))
 
-  -- some trains of 64
+  -- 10,000 for each pair of the trains from l on
   outer-le : (l : ℕ) → 1 ≤ l → l ≤ L .trains + 1 → over l (L .trains + 1) (λ t. t * 10000) ≤ 20800000
   outer-le l a b =
       omega (

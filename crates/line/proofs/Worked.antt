@@ -8,7 +8,7 @@ use native.Mathlib.Omega.{arith}
 use Rattle.line.specs.Line.{Running, Line}
 use Rattle.line.specs.Policy.{Decision, Keep, Policy, dayOf, pairsTotal, total}
 use Rattle.line.specs.Plan.{FirstDifference, IsPlan}
-use Rattle.line.specs.Cells.{Table, Along, IsCell, Book, bookOf, Worked, choice, follow, decide}
+use Rattle.line.specs.Cells.{Table, Along, IsCell, Book, bookOf, Worked, choice, policyBy, decide}
 use Rattle.line.proofs.Following.{keep-or-go, first-on-time}
 use Rattle.line.proofs.Days.{policies-alike, run-alike-refl}
 use Rattle.line.proofs.Starts.{startOf, start-alike}
@@ -29,9 +29,9 @@ module _ (L : Line) (c d : Table) (W : Worked (bookOf L) (L .trains) c d) where
 
   -- a rule that obeys the cells attains its cell
   attains : (k l : ℕ) (rule : ℕ → ℕ → Decision) → 1 ≤ k → k ≤ l → l ≤ L .trains + 1 → Obeys B d k l rule
-      → pairsTotal L (dayOf R (follow rule)) k l ≡ d k l
+      → pairsTotal L (dayOf R (policyBy rule)) k l ≡ d k l
   attains k l rule pos a b obeys =
-      follows-attains L c d W (follow rule) k l pos a b (obeys-along B d k l rule pos obeys)
+      follows-attains L c d W (policyBy rule) k l pos a b (obeys-along B d k l rule pos obeys)
       (λ s u v w. obeys-does B d k l rule pos obeys s u v)
 
   -- ---- the cells mean what document 01 says
@@ -40,7 +40,7 @@ module _ (L : Line) (c d : Table) (W : Worked (bookOf L) (L .trains) c d) where
   cell-means k l pos a b =
       let obeys = from-cell-obeys B d k l pos in
       record {
-        policy = follow (fromCell B d k l);
+        policy = policyBy (fromCell B d k l);
         along = obeys-along B d k l _ pos obeys;
         attained = attains k l _ pos a b obeys;
         least = λ p on. least-of-all L c d W p k l pos a b on;

@@ -8,7 +8,7 @@ use Rattle.lists.specs.Choice.{ifSame}
 use Rattle.lists.specs.Run.{nth}
 use Rattle.line.specs.Line.{Line, lineFrom}
 use Rattle.line.specs.Policy.{Decision, Keep, Go}
-use Rattle.line.specs.Ways.{Rows, Answer, tableFrom, Way, following, listing, working, reworking, by}
+use Rattle.line.specs.Ways.{Rows, Answer, tableFrom, Way, Following, Listing, Working, Reworking, by}
 
 pub record Case : Type 0 where
   pub line : Line
@@ -49,7 +49,7 @@ delaysB7 = reported 1 5 delaysB
 abbrev delaysB8 : ℕ → ℕ
 delaysB8 = reported 2 6 delaysB7
 
--- two trains, slack 0
+-- lines C and D: two trains, slack 0
 abbrev lineC : Line
 lineC = lineIn 2 10 (0 ∷ 0 ∷ []) (0 ∷ 0 ∷ []) (nth (5 ∷ 0 ∷ [])) ((0 ∷ 1 ∷ []) ∷ (1 ∷ []) ∷ [])
 
@@ -62,18 +62,18 @@ abbrev answer : List Decision → List ℕ → ℕ → Rows → Answer
 answer ds delays n rows = record { decisions = ds; delays = delays; total = n; rows = rows }
 
 abbrev policy : Line → Answer → Case
-policy L a = record { line = L; ways = following ∷ []; answer = a }
+policy L a = record { line = L; ways = Following ∷ []; answer = a }
 
 abbrev plan : Line → Answer → Case
-plan L a = record { line = L; ways = listing ∷ working ∷ []; answer = a }
+plan L a = record { line = L; ways = Listing ∷ Working ∷ []; answer = a }
 
 -- after a report of train t over the rows of an answer before, on the line as it then is
 abbrev report : ℕ → Answer → Line → Answer → Case
-report t b L a = record { line = L; ways = reworking t (b .rows) ∷ listing ∷ working ∷ []; answer = a }
+report t b L a = record { line = L; ways = Reworking t (b .rows) ∷ Listing ∷ Working ∷ []; answer = a }
 
 -- the same over rows that no plan left: nothing but the rule fixes the answer
 abbrev rework : ℕ → Rows → Line → Answer → Case
-rework t before L a = record { line = L; ways = reworking t before ∷ []; answer = a }
+rework t before L a = record { line = L; ways = Reworking t before ∷ []; answer = a }
 
 abbrev b4 : Answer
 b4 = answer (Go ∷ Keep ∷ []) (9 ∷ 3 ∷ 0 ∷ []) 176 ((176 ∷ 140 ∷ 54 ∷ []) ∷ (30 ∷ 0 ∷ []) ∷ (0 ∷ []) ∷ [])
@@ -94,18 +94,20 @@ b8 = answer (Keep ∷ Keep ∷ []) (5 ∷ 6 ∷ 1 ∷ []) 143 ((143 ∷ 123 ∷ 
 abbrev foreign : Rows
 foreign = (40 ∷ 7 ∷ []) ∷ (0 ∷ []) ∷ []
 
--- Document 01 prints every total, the decisions of all cases but d, the delays of b4, b7 and b8, and the rows of b4, b7
--- and b8. The other decisions, delays and rows were worked by hand, and so was the last case, which is not in document
--- 01: train 1 of line B reported at 9, as it was, over foreign rows. The total is cell (1, 1), and not the 176 that the
--- decisions cost.
+-- Document 01 prints every total, the decisions of all cases but d, the delays of b4, b7 and b8, the rows of b4, row 1 of
+-- b7 and rows 1 and 2 of b8. The other decisions, delays and rows were worked by hand, and so was the last case, which is
+-- not in document 01: train 1 of line B reported at 9, as it was, over foreign rows. The total is cell (1, 1), and not
+-- the 176 that the decisions cost.
 abbrev pub table : List Case
 table =
+    -- a
     plan lineA (answer [] (7 ∷ []) 21 ((21 ∷ []) ∷ []))
     -- b1, b2, b3 with keep and with go
     ∷ policy (lineB 10 delaysB) (answer (Keep ∷ Keep ∷ []) (9 ∷ 7 ∷ 2 ∷ []) 202 [])
     ∷ policy (lineB 10 delaysB) (answer (Keep ∷ Go ∷ []) (9 ∷ 7 ∷ 0 ∷ []) 218 [])
     ∷ policy (lineB 10 delaysB) (answer (Go ∷ Keep ∷ []) (9 ∷ 3 ∷ 0 ∷ []) 176 [])
     ∷ policy (lineB 10 delaysB) (answer (Go ∷ Go ∷ []) (9 ∷ 3 ∷ 0 ∷ []) 176 [])
+    -- b4 to b8
     ∷ plan (lineB 10 delaysB) b4
     ∷ plan (lineB 12 delaysB) b5
     ∷ plan (lineB 13 delaysB) b6
@@ -115,7 +117,9 @@ table =
     ∷ policy lineC (answer (Keep ∷ []) (5 ∷ 5 ∷ []) 10 [])
     ∷ policy lineC (answer (Go ∷ []) (5 ∷ 0 ∷ []) 10 [])
     ∷ plan lineC (answer (Keep ∷ []) (5 ∷ 5 ∷ []) 10 ((10 ∷ 10 ∷ []) ∷ (0 ∷ []) ∷ []))
+    -- d
     ∷ plan lineD (answer (Keep ∷ []) (0 ∷ 10 ∷ []) 10 ((10 ∷ 10 ∷ []) ∷ (0 ∷ []) ∷ []))
+    -- not in document 01
     ∷ rework 1 ([] ∷ foreign) (lineB 10 delaysB)
     (answer (Go ∷ Keep ∷ []) (9 ∷ 3 ∷ 0 ∷ []) 186 ((186 ∷ 150 ∷ 54 ∷ []) ∷ foreign))
     ∷ []

@@ -4,10 +4,12 @@
 --   IsCell L k l n     n is what document 01 says that cell (k, l) is
 --   leaving, aboard    the two sums of passengers by which a cell is worked
 --   Book               what cells are worked from: a line with these sums in the place of its passengers
---   late R k l         the excess at station l on the run from k; 0 at l = k, where the run begins
---   reach R k l        train l's arrival delay on the run from k
---   worked B c k l     what cell (k, l) has to be, by the cells that it rests on
+--   excessOn R k l     the excess at station l on the run from k; 0 at l = k, where the run begins
+--   arrivalOn R k l    train l's arrival delay on the run from k
+--   keepCost, goCost   the two choices at cell (k, l)
+--   cellBy B c k l     what cell (k, l) has to be, by the cells that it rests on
 --   Worked B t c d     the table d has rows 1 to t worked anew and the rows after t as they stand in c
+--   choice B c k l     the decision at station l on the run from k, by the cells
 --   decide B c         the policy that is read off the cells
 -- Assumes nothing.
 use Prim.Native.Nat.{ℕ, zero, suc, _+_, _-_, _*_, _≤_, _<_, min}
@@ -63,64 +65,65 @@ bookOf L =
       aboard = aboard L;
     }
 
--- go up to train k, and keep after it
+-- the run from k as a policy: go up to train k, and keep after it
 unfoldable pub runFrom : ℕ → Policy
 runFrom k i = ifBelow k i Keep Go
 
-unfoldable pub late : Running → ℕ → ℕ → ℕ
-late R k l = departure R (runFrom k) l
+-- Train k departs with delay 0; after k the run keeps, and train l departs late by exactly the excess.
+unfoldable pub excessOn : Running → ℕ → ℕ → ℕ
+excessOn R k l = departure R (runFrom k) l
 
-unfoldable pub reach : Running → ℕ → ℕ → ℕ
-reach R k l = arrival R (runFrom k) l
+unfoldable pub arrivalOn : Running → ℕ → ℕ → ℕ
+arrivalOn R k l = arrival R (runFrom k) l
 
 -- Keep: those who board at k to l and leave at l + 1, times train l's arrival delay on that run, plus cell (k, l + 1).
 unfoldable pub keepCost : Book → Table → ℕ → ℕ → ℕ
-keepCost B c k l = B .leaving k l * reach (B .running) k l + c k (l + 1)
+keepCost B c k l = B .leaving k l * arrivalOn (B .running) k l + c k (l + 1)
 
 -- Go: the period times those who board at k to l - 1 and leave after l, plus cell (l, l).
 unfoldable pub goCost : Book → Table → ℕ → ℕ → ℕ
 goCost B c k l = B .period l * B .aboard k l + c l l
 
--- Each cell is the lesser of two choices. For l = k, and where the excess is 0, only keep is a choice.
+-- Each cell is the lesser of two choices. For l = k, and where the excess, the first number, is 0, only keep is a choice.
 abbrev pub lesser : ℕ → ℕ → ℕ → ℕ
 lesser zero keep go = keep
 lesser (suc e) keep go = min keep go
 
-unfoldable pub worked : Book → Table → ℕ → ℕ → ℕ
-worked B c k l = lesser (late (B .running) k l) (keepCost B c k l) (goCost B c k l)
+unfoldable pub cellBy : Book → Table → ℕ → ℕ → ℕ
+cellBy B c k l = lesser (excessOn (B .running) k l) (keepCost B c k l) (goCost B c k l)
 
 -- A plan works rows 1 to m, a report of train t rows 1 to t, from the later rows as they stand. For l = m + 1 the value
 -- is 0.
 pub record Worked (B : Book) (t : ℕ) (c d : Table) : Type 0 where
   pub last : (k : ℕ) → d k (B .trains + 1) ≡ 0
-  pub anew : (k l : ℕ) → 1 ≤ k → k ≤ t → k ≤ l → l ≤ B .trains → d k l ≡ worked B d k l
+  pub anew : (k l : ℕ) → 1 ≤ k → k ≤ t → k ≤ l → l ≤ B .trains → d k l ≡ cellBy B d k l
   pub stand : (k l : ℕ) → t < k → k ≤ l → l ≤ B .trains → d k l ≡ c k l
 
 -- ---- what is read off
 
--- the lesser choice, and keep when equal
+-- keep where the excess is 0; else the lesser choice, and keep when equal
 abbrev pub prefer : ℕ → ℕ → ℕ → Decision
 prefer zero keep go = Keep
 prefer (suc e) keep go = ifBelow go keep Go Keep
 
 unfoldable pub choice : Book → Table → ℕ → ℕ → Decision
-choice B c k l = prefer (late (B .running) k l) (keepCost B c k l) (goCost B c k l)
+choice B c k l = prefer (excessOn (B .running) k l) (keepCost B c k l) (goCost B c k l)
 
 -- the first under keep, the second under go
 abbrev pub under : {A : Type 0} → Decision → A → A → A
 under Keep x y = x
 under Go x y = y
 
--- The train with which the run begins that train i is on, where `rule k s` decides at station s on the run from k. The
--- first run begins with train 1.
+-- The first train of the run that train i is on, where `rule k s` decides at station s on the run from k. The first run
+-- begins with train 1.
 unfoldable pub begins : (ℕ → ℕ → Decision) → ℕ → ℕ
 begins rule zero = 1
 begins rule (suc i) = under (rule (begins rule i) (suc i)) (begins rule i) (suc i)
 
--- at station s the run is decided that train s - 1 is on
-unfoldable pub follow : (ℕ → ℕ → Decision) → Policy
-follow rule s = rule (begins rule (s - 1)) s
+-- at station s the rule decides for the run that train s - 1 is on
+unfoldable pub policyBy : (ℕ → ℕ → Decision) → Policy
+policyBy rule s = rule (begins rule (s - 1)) s
 
 -- Decisions follow by comparing the two choices in the cells, and delays by following them: arrival R (decide B c).
 unfoldable pub decide : Book → Table → Policy
-decide B c = follow (choice B c)
+decide B c = policyBy (choice B c)

@@ -1,11 +1,13 @@
 -- The plan. Document 01, "Following a policy", from the total on.
+--   FirstDifference m p q t   t is the first train at which p and q differ
+--   IsPlan L p                p is the plan of L
 -- Assumes nothing.
 use Prim.Native.Nat.{ℕ, _≤_, _<_}
 use mathlib.Core.Path.{_≡_}
 use Rattle.line.specs.Line.{Line}
 use Rattle.line.specs.Policy.{Policy, Keep, total}
 
--- Compare from train 2 upward: t is the first of m trains at which two policies differ.
+-- Compare from train 2 upward: t is the first of trains 2 to m at which p and q differ.
 pub record FirstDifference (m : ℕ) (p q : Policy) (t : ℕ) : Type 0 where
   pub from-two : 2 ≤ t
   pub in-line : t ≤ m

@@ -45,6 +45,7 @@ arrival R p (suc i) = R .arrive (suc i) (departs (p (suc i)) (arrival R p i - R 
 unfoldable pub excess : Running → Policy → ℕ → ℕ
 excess R p s = arrival R p (s - 1) - R .slack s
 
+-- how late train i departs
 unfoldable pub departure : Running → Policy → ℕ → ℕ
 departure R p i = departs (p i) (excess R p i)
 
@@ -55,10 +56,12 @@ pub record Day : Type 0 where
   pub arrival : ℕ → ℕ
   pub missed : ℕ → Bool
 
+-- the day under a policy
 abbrev pub dayOf : Running → Policy → Day
 dayOf R p = record { arrival = arrival R p; missed = missed R p }
 
--- The stations strictly between i and j in their order: f of the first that is missed, and `none` where none is.
+-- f s for the first station s strictly between i and j (the j - 1 - i from i + 1 on) whose transfer is missed; `none`
+-- where none is.
 unfoldable pub atFirstMissed : {A : Type 0} → Day → ℕ → ℕ → (ℕ → A) → A → A
 atFirstMissed D i j f none = runOf (λ s later. if D .missed s then f s else later) none (λ s. s) (i + 1) (j - 1 - i)
 
@@ -66,8 +69,8 @@ atFirstMissed D i j f none = runOf (λ s later. if D .missed s then f s else lat
 unfoldable pub dropped : Day → ℕ → ℕ → Bool
 dropped D i j = atFirstMissed D i j (λ s. true) false
 
--- Each of its passengers then counts the period of the first such station. Otherwise each counts the arrival delay of
--- train j - 1.
+-- Each of its passengers then counts the period of the first such station, which is T everywhere in document 01.
+-- Otherwise each counts the arrival delay of train j - 1.
 unfoldable pub counts : Line → Day → ℕ → ℕ → ℕ
 counts L D i j = atFirstMissed D i j (L .period) (D .arrival (j - 1))
 

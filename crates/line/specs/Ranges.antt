@@ -2,7 +2,7 @@
 -- and its numbers".
 --   LineInRange L   of a line: its trains, what a train adds to a delay, the period, the passengers of a pair
 --   BookInRange B       the same of a book: all who leave the trains from k on, having boarded at k or later, are at most
---                   2,080 pairs × 10,000
+--                   2,080 pairs × 10,000; so are those aboard at a station
 -- Assumes nothing.
 use Prim.Native.Nat.{ℕ, _+_, _≤_, _<_}
 use Rattle.line.specs.Sum.{sum_from_to_}

@@ -1,9 +1,9 @@
 -- Ways to the answer of a case of document 01, "Sums to check by hand".
---   following     follow the decisions printed
---   listing       list all policies in the order in which document 01 prefers them, and follow the first of least
+--   Following     follow the decisions printed
+--   Listing       list all policies in the order in which document 01 prefers them, and follow the first of least
 --                 total; the cells have no part in it
---   working       work each cell by the rule from the cells printed, and read decisions, delays and total off them
---   reworking     the same for rows 1 to t after a report of train t; the later rows as they stood
+--   Working       work each cell by the rule from the cells printed, and read decisions, delays and total off them
+--   Reworking     the same for rows 1 to t after a report of train t; the later rows as they stood
 --   by w L a      the answer that the way w finds on the line L, where a is printed
 -- Assumes nothing.
 use Prim.Native.Nat.{ℕ, zero, suc, _+_, _-_}
@@ -13,7 +13,7 @@ use Rattle.lists.specs.Choice.{ifBelow}
 use Rattle.lists.specs.Run.{listed, nth}
 use Rattle.line.specs.Line.{Line}
 use Rattle.line.specs.Policy.{Decision, Keep, Go, Policy, arrival, total}
-use Rattle.line.specs.Cells.{Table, bookOf, worked, decide}
+use Rattle.line.specs.Cells.{Table, bookOf, cellBy, decide}
 
 abbrev pub Rows : Type 0
 Rows = List (List ℕ)
@@ -25,6 +25,7 @@ pub record Answer : Type 0 where
   pub total : ℕ
   pub rows : Rows
 
+-- train 2's decision is the first; keep after the last
 abbrev policyFrom : List Decision → Policy
 policyFrom ds i = getD ds (i - 2) Keep
 
@@ -42,10 +43,10 @@ outcome L rows ds =
       rows = rows;
     }
 
--- all decisions for n trains, keep before go at the first difference
-abbrev everyDecision : ℕ → List (List Decision)
-everyDecision zero = [] ∷ []
-everyDecision (suc n) = map (λ ds. Keep ∷ ds) (everyDecision n) ++ map (λ ds. Go ∷ ds) (everyDecision n)
+-- all policies for n trains, keep before go at the first difference
+abbrev everyPolicy : ℕ → List (List Decision)
+everyPolicy zero = [] ∷ []
+everyPolicy (suc n) = map (λ ds. Keep ∷ ds) (everyPolicy n) ++ map (λ ds. Go ∷ ds) (everyPolicy n)
 
 -- the first of least total, of ds and those after it
 abbrev firstLeast : Line → List Decision → List (List Decision) → List Decision
@@ -61,7 +62,7 @@ least L (ds ∷ others) = firstLeast L ds others
 abbrev work : Line → ℕ → Rows → Rows → Answer
 work L t before rows =
     let c = tableFrom rows in
-    let cell : ℕ → ℕ → ℕ = λ k l. ifBelow t k (tableFrom before k l) (worked (bookOf L) c k l) in
+    let cell : ℕ → ℕ → ℕ = λ k l. ifBelow t k (tableFrom before k l) (cellBy (bookOf L) c k l) in
     record {
       decisions = listed (decide (bookOf L) c) 2 (L .trains - 1);
       delays = listed (arrival (L .running) (decide (bookOf L) c)) 1 (L .trains);
@@ -70,11 +71,11 @@ work L t before rows =
     }
 
 pub data Way : Type 0 where
-  following listing working : Way
-  reworking : ℕ → Rows → Way
+  Following Listing Working : Way
+  Reworking : ℕ → Rows → Way
 
 abbrev pub by : Way → Line → Answer → Answer
-by following L a = outcome L (a .rows) (a .decisions)
-by listing L a = outcome L (a .rows) (least L (everyDecision (L .trains - 1)))
-by working L a = work L (L .trains) [] (a .rows)
-by (reworking t before) L a = work L t before (a .rows)
+by Following L a = outcome L (a .rows) (a .decisions)
+by Listing L a = outcome L (a .rows) (least L (everyPolicy (L .trains - 1)))
+by Working L a = work L (L .trains) [] (a .rows)
+by (Reworking t before) L a = work L t before (a .rows)
