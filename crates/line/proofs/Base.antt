@@ -1,4 +1,5 @@
--- The base, document 01's own line: its slack, its arrivals, what its passengers count, its ranges, and which lines are alike.
+-- The base, document 01's own line: its slack, its arrivals, what its passengers count, its ranges, and which such
+-- lines are alike.
 -- Assumes nothing.
 use mathlib.Core.Path.{_≡_, refl, ap}
 use Prim.Native.Nat.{ℕ, _+_, _-_, _≤_, _<_}

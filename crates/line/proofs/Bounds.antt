@@ -59,7 +59,7 @@ row-le B run t c d W k l pos h a b =
       W .last k,
       falls-within l (B .trains + 1) cost (d k) (omega arith) (λ s u v. keep s (omega arith) (omega arith)),
       over-le l (B .trains + 1) cost (λ s. B .leaving k s * 92160) (omega arith)
-          (λ s u v. mul-le-mul (le-refl (B .leaving k s)) (arrival-on-le (B .trains) (B .running) run k s (omega arith))),
+          (λ s u v. mul-le-mul (le-refl (B .leaving k s)) (arrival-on-le _ (B .running) run k s (omega arith))),
       over-scale l (B .trains + 1) (B .leaving k) 92160 (omega arith),
     )
   where

@@ -1,5 +1,5 @@
--- Document 01, "Row k depends on trains k to m alone": two lines, and two books, alike from train k to the last. Neither
--- the slack nor the period at station k is asked for: the run that begins there waits for nobody.
+-- Document 01, "Row k depends on trains k to m alone": two lines, and two books, alike from train k to the last.
+-- Neither the slack nor the period at station k is asked for: the run that begins there waits for nobody.
 -- Assumes nothing.
 use Prim.Native.Nat.{ℕ, _+_, _≤_, _<_}
 use mathlib.Core.Path.{_≡_}

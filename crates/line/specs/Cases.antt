@@ -94,10 +94,10 @@ b8 = answer (Keep ∷ Keep ∷ []) (5 ∷ 6 ∷ 1 ∷ []) 143 ((143 ∷ 123 ∷ 
 abbrev foreign : Rows
 foreign = (40 ∷ 7 ∷ []) ∷ (0 ∷ []) ∷ []
 
--- Document 01 prints every total, the decisions of all cases but d, the delays of b4, b7 and b8, the rows of b4, row 1 of
--- b7 and rows 1 and 2 of b8. The other decisions, delays and rows were worked by hand, and so was the last case, which is
--- not in document 01: train 1 of line B reported at 9, as it was, over foreign rows. The total is cell (1, 1), and not
--- the 176 that the decisions cost.
+-- Document 01 prints every total, the decisions of all cases but d, the delays of b4, b7 and b8, the rows of b4, row 1
+-- of b7 and rows 1 and 2 of b8. The other decisions, delays and rows were worked by hand, and so was the last case,
+-- which is not in document 01: train 1 of line B reported at 9, as it was, over foreign rows. The total is cell (1, 1),
+-- and not the 176 that the decisions cost.
 abbrev pub table : List Case
 table =
     -- a

@@ -84,7 +84,8 @@ keepCost B c k l = B .leaving k l * arrivalOn (B .running) k l + c k (l + 1)
 unfoldable pub goCost : Book → Table → ℕ → ℕ → ℕ
 goCost B c k l = B .period l * B .aboard k l + c l l
 
--- Each cell is the lesser of two choices. For l = k, and where the excess, the first number, is 0, only keep is a choice.
+-- Each cell is the lesser of two choices. For l = k, and where the excess is 0, only keep is a choice. The first number
+-- is the excess.
 abbrev pub lesser : ℕ → ℕ → ℕ → ℕ
 lesser zero keep go = keep
 lesser (suc e) keep go = min keep go

@@ -1,8 +1,9 @@
 -- The most that the numbers of a line and of its sums may be, asked of the trains in use alone. Document 01, "The line
 -- and its numbers".
---   LineInRange L   of a line: its trains, what a train adds to a delay, the period, the passengers of a pair
---   BookInRange B       the same of a book: all who leave the trains from k on, having boarded at k or later, are at most
---                   2,080 pairs × 10,000; so are those aboard at a station
+--   RunningInRange m R   at most 64 trains, each of which adds at most 1,440 minutes to a delay
+--   LineInRange L         and periods of at most 1,440, and at most 10,000 passengers of a pair
+--   BookInRange B         the same of a book: all who board at k or later and leave are at most 2,080 pairs × 10,000, and
+--                         so are those aboard at a station
 -- Assumes nothing.
 use Prim.Native.Nat.{ℕ, _+_, _≤_, _<_}
 use Rattle.line.specs.Sum.{sum_from_to_}
