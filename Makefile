@@ -4,7 +4,7 @@
 
 help:
 	@echo 'make run       prove read and write, run them on the list of document 01 and show what they answer'
-	@echo 'make test      the gate: prove everything from nothing, try the wrong versions, run the programs (3 minutes)'
+	@echo 'make test      the gate: prove everything from nothing, try the wrong versions, run the programs (4 minutes)'
 	@echo 'make vectors   compare the test inputs with the independent reading of document 01 that made them (python3)'
 	@echo 'make format    lay out every source file'
 

@@ -2,8 +2,8 @@
 -- and its numbers".
 --   RunningInRange m R   at most 64 trains, each of which adds at most 1,440 minutes to a delay
 --   LineInRange L         and periods of at most 1,440, and at most 10,000 passengers of a pair
---   BookInRange B         the same of a book: all who board at k or later and leave are at most 2,080 pairs × 10,000, and
---                         so are those aboard at a station
+--   BookInRange B         the same of a book: all who board at k or later and leave are at most 2,080 pairs × 10,000,
+--                         and so are those aboard at a station
 -- Assumes nothing.
 use Prim.Native.Nat.{ℕ, _+_, _≤_, _<_}
 use Rattle.line.specs.Sum.{sum_from_to_}
