@@ -52,7 +52,7 @@ arrival-on-le m R range k = arrival-le m R range (runFrom k)
 
 -- a worked cell is at most all who leave from l on, times the largest delay, whatever stands in the later rows
 pub row-le : (B : Book) → RunningInRange (B .trains) (B .running) → (t : ℕ) (c d : Table) → Worked B t c d
-    → (k l : ℕ) → 1 ≤ k → k ≤ t → k ≤ l → l ≤ B .trains → d k l ≤ over l (B .trains + 1) (B .leaving k) * 92160
+    → (k l : ℕ) → 1 ≤ k → k ≤ t → k ≤ l → l ≤ B .trains → d k l ≤ (sum (B .leaving k) from l to (B .trains)) * 92160
 row-le B run t c d W k l pos h a b =
     omega (
       arith,
@@ -61,6 +61,7 @@ row-le B run t c d W k l pos h a b =
       over-le l (B .trains + 1) cost (λ s. B .leaving k s * 92160) (omega arith)
           (λ s u v. mul-le-mul (le-refl (B .leaving k s)) (arrival-on-le _ (B .running) run k s (omega arith))),
       over-scale l (B .trains + 1) (B .leaving k) 92160 (omega arith),
+      ap (λ (x : ℕ). x * 92160) (sum-over (B .leaving k) l (B .trains)),
     )
   where
     cost : ℕ → ℕ
@@ -71,17 +72,24 @@ row-le B run t c d W k l pos h a b =
 
 module _ (B : Book) (range : BookInRange B) (k : ℕ) (pos : 1 ≤ k) where
   -- all who leave from l on
-  leavers-le : (l : ℕ) → k ≤ l → l ≤ B .trains → over l (B .trains + 1) (B .leaving k) ≤ 20800000
+  leavers-le : (l : ℕ) → k ≤ l → l ≤ B .trains → sum (B .leaving k) from l to (B .trains) ≤ 20800000
   leavers-le l a b =
       omega (
         arith,
         range .leaving k pos (omega arith),
         sum-over (B .leaving k) k (B .trains),
+        sum-over (B .leaving k) l (B .trains),
         over-split k l (B .trains + 1) (B .leaving k) a (omega arith),
       )
 
   pub leaving-le : (l : ℕ) → k ≤ l → l ≤ B .trains → B .leaving k l ≤ 20800000
-  leaving-le l a b = omega (arith, leavers-le l a b, over-first l (B .trains + 1) (B .leaving k) (omega arith))
+  leaving-le l a b =
+      omega (
+        arith,
+        leavers-le l a b,
+        sum-over (B .leaving k) l (B .trains),
+        over-first l (B .trains + 1) (B .leaving k) (omega arith),
+      )
 
   -- every worked cell
   pub cell-le : (t : ℕ) (c d : Table) → Worked B t c d → k ≤ t → (l : ℕ) → k ≤ l → l ≤ B .trains

@@ -7,16 +7,12 @@ use Rattle.lists.proofs.Choice.{if-same}
 use Rattle.lists.proofs.Induction.{down, up}
 use Rattle.line.specs.Line.{Running, Line}
 use Rattle.line.specs.Policy.{Policy, arrival, excess, departure, missed, Day, dayOf, counts, pairsTotal, total}
-use Rattle.line.specs.Alike.{RunningAlike, LinesAlike}
+use Rattle.line.specs.Alike.{RunningAlike, DaysAlike, LinesAlike}
 use Rattle.line.proofs.Sums.{over, over-same}
 use Rattle.line.proofs.Passengers.{counts-last, counts-next, pairs-over}
 use Rattle.line.proofs.Following.{first-on-time, arrival-departed, excess-next}
 
 -- ---- what passengers read of a day
-
-pub record DaysAlike (k m : ℕ) (D E : Day) : Type 0 where
-  pub arrival : (i : ℕ) → k ≤ i → i ≤ m → D .arrival i ≡ E .arrival i
-  pub missed : (s : ℕ) → k < s → s ≤ m → D .missed s ≡ E .missed s
 
 module _ (k : ℕ) (L M : Line) (D E : Day) (lines : LinesAlike k L M) (days : DaysAlike k (L .trains) D E) where
   counts-alike : (i t : ℕ) → k ≤ i → i ≤ t → t ≤ L .trains → counts L D i (t + 1) ≡ counts M E i (t + 1)

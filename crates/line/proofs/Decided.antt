@@ -34,7 +34,7 @@ goes-missed B c p k pos on-time s a go same =
 
 -- ---- rules
 
-module _ {A : Type 0} {b : Decision} (x y : A) where
+module _ {b : Decision} (x y : ℕ) where
   under-keep : b ≡ Keep → under b x y ≡ x
   under-keep e = rw e
 
@@ -54,7 +54,7 @@ module _ (rule : ℕ → ℕ → Decision) where
   unfolding begins
   begins-first = either (rule 1 1)
     where
-      either : (b : Decision) → _≡_ {A = ℕ} (under b 1 1) 1
+      either : (b : Decision) → under b 1 1 ≡ 1
       either Keep = refl
       either Go = refl
 

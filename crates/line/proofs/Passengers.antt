@@ -140,10 +140,11 @@ aboard-over L k l pos = sum-over _ l (L .trains) ∙ over-same l (L .trains + 1)
 
 -- those aboard at l, by those who leave: having boarded at k or later, less those who boarded at l or later
 pub aboard-leaving : (L : Line) (k l : ℕ) → 1 ≤ l → k ≤ l
-    → aboard L k l ≡ over l (L .trains + 1) (λ t. leaving L k t - leaving L l t)
+    → aboard L k l ≡ sum (λ t. leaving L k t - leaving L l t) from l to (L .trains)
 aboard-leaving L k l pos a =
     aboard-over L k l pos
     ∙ over-same l (L .trains + 1) _ _
     (λ t u v.
     let parted = over-split k l (t + 1) (λ i. L .passengers i (t + 1)) a (omega arith) in
     omega (arith, parted, leaving-over L k t, leaving-over L l t))
+    ∙ sym (sum-over _ l (L .trains))

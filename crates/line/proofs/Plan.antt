@@ -13,10 +13,10 @@ use Rattle.lists.proofs.Induction.{up}
 use Rattle.line.specs.Line.{Running, Line}
 use Rattle.line.specs.Policy.{Keep, Go, Policy, excess, departure, missed, dayOf, total}
 use Rattle.line.specs.Plan.{FirstDifference, IsPlan}
-use Rattle.line.specs.Alike.{LinesAlike}
+use Rattle.line.specs.Alike.{DaysAlike, LinesAlike}
 use Rattle.line.proofs.Following.{keep-or-go, keep-not-go, first-on-time, keep-departs, keep-maintains}
 use Rattle.line.proofs.Following.{no-excess-maintains, maintained-departs}
-use Rattle.line.proofs.Days.{DaysAlike, pairs-alike, days-alike, run-alike-refl, lines-alike-refl, same-total}
+use Rattle.line.proofs.Days.{pairs-alike, days-alike, run-alike-refl, lines-alike-refl, same-total}
 
 -- ---- the plan is one
 

@@ -1,14 +1,19 @@
--- Document 01, "Row k depends on trains k to m alone": two lines, and two books, alike from train k to the last.
--- Neither the slack nor the period at station k is asked for: the run that begins there waits for nobody.
+-- Document 01, "Row k depends on trains k to m alone": two lines, two books and two days alike from train k to the
+-- last. Nothing is asked of station k, neither slack nor period nor a miss: the run that begins there waits for nobody.
 -- Assumes nothing.
 use Prim.Native.Nat.{ℕ, _+_, _≤_, _<_}
 use mathlib.Core.Path.{_≡_}
 use Rattle.line.specs.Line.{Running, Line}
+use Rattle.line.specs.Policy.{Day}
 use Rattle.line.specs.Cells.{Book}
 
 pub record RunningAlike (k m : ℕ) (R S : Running) : Type 0 where
   pub slack : (s : ℕ) → k < s → s ≤ m → R .slack s ≡ S .slack s
   pub arrive : (i x : ℕ) → k ≤ i → i ≤ m → R .arrive i x ≡ S .arrive i x
+
+pub record DaysAlike (k m : ℕ) (D E : Day) : Type 0 where
+  pub arrival : (i : ℕ) → k ≤ i → i ≤ m → D .arrival i ≡ E .arrival i
+  pub missed : (s : ℕ) → k < s → s ≤ m → D .missed s ≡ E .missed s
 
 pub record LinesAlike (k : ℕ) (L M : Line) : Type 0 where
   pub trains : L .trains ≡ M .trains

@@ -111,7 +111,7 @@ unfoldable pub choice : Book → Table → ℕ → ℕ → Decision
 choice B c k l = prefer (excessOn (B .running) k l) (keepCost B c k l) (goCost B c k l)
 
 -- the first under keep, the second under go
-abbrev pub under : {A : Type 0} → Decision → A → A → A
+abbrev pub under : Decision → ℕ → ℕ → ℕ
 under Keep x y = x
 under Go x y = y
 
