@@ -1,7 +1,7 @@
 -- How large delays and cells can be. A worked cell is no more than its keep, and so no more than all who leave its row,
 -- times the largest delay, whatever stands in the later rows.
 -- Assumes nothing.
-use mathlib.Core.Path.{_≡_, ap, sym, _∙_}
+use mathlib.Core.Path.{_≡_, refl, ap, sym, _∙_}
 use Prim.Native.Nat.{ℕ, _+_, _*_, _≤_, _<_}
 use native.Mathlib.Nat.{le-refl, le-trans, le-of-eq, mul-le-mul}
 use native.Mathlib.Omega.{arith}
@@ -11,11 +11,15 @@ use Rattle.line.specs.Policy.{Decision, Keep, Go, Policy, departs, arriv
 use Rattle.line.specs.Cells.{Table, Book, runFrom, arrivalOn, keepCost, goCost, Worked}
 use Rattle.line.specs.Alike.{BooksAlike}
 use Rattle.line.specs.Sum.{sum_from_to_}
-use Rattle.line.specs.Ranges.{RunningInRange, BookInRange}
+use Rattle.line.specs.Ranges.{latest, everyone, limit, RunningInRange, BookInRange}
 use Rattle.line.proofs.Sums.{over, sum-over, over-first, over-split, over-same, over-scale, over-le}
 use Rattle.line.proofs.Sums.{falls-within}
 use Rattle.line.proofs.Following.{arrival-departed, excess-next}
 use Rattle.line.proofs.Choices.{cell-by-le-keep}
+
+-- the limit as document 01 prints it
+pub limit-is : limit ≡ 1916928000000
+limit-is = refl
 
 -- ---- delays
 
@@ -41,27 +45,27 @@ module _ (m : ℕ) (R : Running) (range : RunningInRange m R) (p : Policy) where
       ))
 
   -- no train arrives later than 64 source delays of 1,440
-  pub arrival-le : (i : ℕ) → i ≤ m → arrival R p i ≤ 92160
+  pub arrival-le : (i : ℕ) → i ≤ m → arrival R p i ≤ latest
   arrival-le i b = omega (arith, arrival-each i b, range .trains)
 
 -- ---- cells
 
-pub arrival-on-le : (m : ℕ) (R : Running) → RunningInRange m R → (k l : ℕ) → l ≤ m → arrivalOn R k l ≤ 92160
+pub arrival-on-le : (m : ℕ) (R : Running) → RunningInRange m R → (k l : ℕ) → l ≤ m → arrivalOn R k l ≤ latest
 unfolding arrivalOn
 arrival-on-le m R range k = arrival-le m R range (runFrom k)
 
 -- a worked cell is at most all who leave from l on, times the largest delay, whatever stands in the later rows
 pub row-le : (B : Book) → RunningInRange (B .trains) (B .running) → (t : ℕ) (c d : Table) → Worked B t c d
-    → (k l : ℕ) → 1 ≤ k → k ≤ t → k ≤ l → l ≤ B .trains → d k l ≤ (sum (B .leaving k) from l to (B .trains)) * 92160
+    → (k l : ℕ) → 1 ≤ k → k ≤ t → k ≤ l → l ≤ B .trains → d k l ≤ (sum (B .leaving k) from l to (B .trains)) * latest
 row-le B run t c d W k l pos h a b =
     omega (
       arith,
       W .last k,
       falls-within l (B .trains + 1) cost (d k) (omega arith) (λ s u v. keep s (omega arith) (omega arith)),
-      over-le l (B .trains + 1) cost (λ s. B .leaving k s * 92160) (omega arith)
+      over-le l (B .trains + 1) cost (λ s. B .leaving k s * latest) (omega arith)
           (λ s u v. mul-le-mul (le-refl (B .leaving k s)) (arrival-on-le _ (B .running) run k s (omega arith))),
-      over-scale l (B .trains + 1) (B .leaving k) 92160 (omega arith),
-      ap (λ (x : ℕ). x * 92160) (sum-over (B .leaving k) l (B .trains)),
+      over-scale l (B .trains + 1) (B .leaving k) latest (omega arith),
+      ap (λ (x : ℕ). x * latest) (sum-over (B .leaving k) l (B .trains)),
     )
   where
     cost : ℕ → ℕ
@@ -72,7 +76,7 @@ row-le B run t c d W k l pos h a b =
 
 module _ (B : Book) (range : BookInRange B) (k : ℕ) (pos : 1 ≤ k) where
   -- all who leave from l on
-  leavers-le : (l : ℕ) → k ≤ l → l ≤ B .trains → sum (B .leaving k) from l to (B .trains) ≤ 20800000
+  leavers-le : (l : ℕ) → k ≤ l → l ≤ B .trains → sum (B .leaving k) from l to (B .trains) ≤ everyone
   leavers-le l a b =
       omega (
         arith,
@@ -82,7 +86,7 @@ module _ (B : Book) (range : BookInRange B) (k : ℕ) (pos : 1 ≤ k) where
         over-split k l (B .trains + 1) (B .leaving k) a (omega arith),
       )
 
-  pub leaving-le : (l : ℕ) → k ≤ l → l ≤ B .trains → B .leaving k l ≤ 20800000
+  pub leaving-le : (l : ℕ) → k ≤ l → l ≤ B .trains → B .leaving k l ≤ everyone
   leaving-le l a b =
       omega (
         arith,
@@ -93,15 +97,15 @@ module _ (B : Book) (range : BookInRange B) (k : ℕ) (pos : 1 ≤ k) where
 
   -- every worked cell
   pub cell-le : (t : ℕ) (c d : Table) → Worked B t c d → k ≤ t → (l : ℕ) → k ≤ l → l ≤ B .trains
-      → d k l ≤ 1916928000000
+      → d k l ≤ limit
   cell-le t c d W h l a b = omega (arith, row-le B (range .running) t c d W k l pos h a b, leavers-le l a b)
 
   -- the two choices, over the cells on which they rest
-  pub keep-le : (c : Table) (l : ℕ) → k ≤ l → l ≤ B .trains → keepCost B c k l ≤ 1916928000000 + c k (l + 1)
+  pub keep-le : (c : Table) (l : ℕ) → k ≤ l → l ≤ B .trains → keepCost B c k l ≤ limit + c k (l + 1)
   unfolding keepCost
   keep-le c l a b = omega (arith, mul-le-mul (leaving-le l a b) (arrival-on-le _ _ (range .running) k l b))
 
-  pub go-le : (c : Table) (l : ℕ) → k < l → l ≤ B .trains → goCost B c k l ≤ 29952000000 + c l l
+  pub go-le : (c : Table) (l : ℕ) → k < l → l ≤ B .trains → goCost B c k l ≤ 1440 * everyone + c l l
   unfolding goCost
   go-le c l a b = omega (arith, mul-le-mul (range .period l (omega arith) b) (range .aboard k l pos a b))
 
