@@ -41,6 +41,14 @@ impl Station {
     {
         Train(self.0 - 1)
     }
+
+    // Where the station stands in a list that begins with station 1.
+    pub fn index(self) -> usize
+        requires { ⌜ 1 ≤ self .0 ⌝ }
+        ensures { λ r. ⌜ r ≡ self .0 - 1 ⌝ }
+    {
+        self.0 as usize - 1
+    }
 }
 
 // Why an input is refused. The place, where there is one, is a train, a passenger field from 1, or

@@ -1,9 +1,9 @@
 -- The passenger fields 1 to m(m+1)/2 and the pairs of stations correspond one to one, in the order of document 01.
 -- Assumes nothing.
-use mathlib.Core.Path.{_≡_, refl, sym, ap}
+use mathlib.Core.Path.{_≡_, refl, sym, ap, _∙_}
 use mathlib.Core.Logic.{_⊎_, inl, inr, ⊎-elim}
-use Prim.Native.Nat.{ℕ, zero, suc, _+_, _-_, _*_, _≤_, _<_}
-use native.Mathlib.Nat.{not-suc-le-zero, mul-suc, suc-mul}
+use Prim.Native.Nat.{ℕ, zero, suc, _+_, _-_, _*_, _/_, _≤_, _<_}
+use native.Mathlib.Nat.{not-suc-le-zero, mul-suc, suc-mul, mul-add, mul-one}
 use native.Mathlib.Omega.{arith}
 use Rattle.lists.proofs.Order.{lt-or-ge}
 use Rattle.sheet.specs.Format.{pairsOf}
@@ -15,6 +15,19 @@ fields-twice : (m k : ℕ) → k ≤ m → 2 * fieldsUpTo m k + k * k ≡ 2 * (m
 unfolding fieldsUpTo
 fields-twice m zero l = omega arith
 fields-twice m (suc k) l = omega (arith, fields-twice m k (omega arith), mul-suc m k, mul-suc (suc k) k, suc-mul k k)
+
+-- the fields of stations 1 to k without counting them one station after the other
+pub fields-closed : (m k : ℕ) → k ≤ m → k * (2 * m + 1 - k) ≡ 2 * fieldsUpTo m k
+fields-closed m k l =
+    let whole : 2 * m + 1 - k + k ≡ 2 * m + 1 = omega arith in
+    let product : k * (2 * m + 1) ≡ 2 * (m * k) + k = simp (mul-add, mul-one) (omega arith) in
+    omega (arith, fields-twice m k l, mul-add k (2 * m + 1 - k) k, ap (λ (n : ℕ). k * n) whole, product)
+
+pub field-closed : (m k i j : ℕ) → k ≡ i - 1 → k ≤ m → k * (2 * m + 1 - k) / 2 + (j - i) ≡ fieldOfPair m i j
+unfolding fieldOfPair
+field-closed m k i j e l =
+    let half : k * (2 * m + 1 - k) / 2 ≡ fieldsUpTo m k = omega (arith, fields-closed m k l) in
+    ap (λ (n : ℕ). n + (j - i)) (half ∙ ap (fieldsUpTo m) e)
 
 -- the fields of stations 1 to m are all fields
 pub fields-all : (m : ℕ) → fieldsUpTo m m ≡ pairsOf m
@@ -31,7 +44,7 @@ unfolding fieldsUpTo
 fields-le m k zero = let e : 0 + k ≡ k = omega arith in rw e (omega arith)
 fields-le m k (suc n) = let e : suc n + k ≡ suc (n + k) = omega arith in rw e (omega (arith, fields-le m k n))
 
-fields-mono : (m k n : ℕ) → k ≤ n → fieldsUpTo m k ≤ fieldsUpTo m n
+pub fields-mono : (m k n : ℕ) → k ≤ n → fieldsUpTo m k ≤ fieldsUpTo m n
 fields-mono m k n l = let e : n - k + k ≡ n = omega arith in rw e at (fields-le m k (n - k))
 
 -- the field of a pair lies after those of earlier stations and within those of its own

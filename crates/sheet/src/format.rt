@@ -3,6 +3,8 @@ ghost use mathlib.Core.Path.{_≡_};
 ghost use Prim.Native.Nat.{_≤_};
 ghost use Rattle.sheet.specs.Format.{departureColumn, drivingColumn, delayColumn};
 ghost use Rattle.sheet.specs.Format.{passengerColumn, bitsOf, bytesOf, pairsOf};
+ghost use Rattle.sheet.specs.Pairs.{IsPair, fieldOfPair};
+use rail::Station;
 
 // The head: m, then T.
 pub const TRAINS_AT: usize = 0;
@@ -87,4 +89,13 @@ pub fn pairs_of(m: usize) -> usize
     ensures { λ r. ⌜ r ≡ pairsOf m ⌝ }
 {
     m * (m + 1) / 2
+}
+
+// The passenger field, from 1, of those who board at one station and leave at another.
+pub fn field_of_pair(m: u32, from: Station, to: Station) -> usize
+    requires { ⌜ (m ≤ 64) × IsPair m (from .0) (to .0) ⌝ }
+    ensures { λ r. ⌜ (r ≡ fieldOfPair m (from .0) (to .0)) × (1 ≤ r) × (r ≤ pairsOf m) ⌝ }
+{
+    let before = from.index();
+    before * (2 * m as usize + 1 - before) / 2 + (to.0 - from.0) as usize
 }

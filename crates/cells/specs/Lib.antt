@@ -1,0 +1,4 @@
+pub mod Place
+pub mod Given
+pub mod Shown
+pub mod Steps

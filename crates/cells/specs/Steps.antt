@@ -1,0 +1,121 @@
+-- What the steps of working rows and of walking need and leave. Rows and trains count from 1, places of a list from 0.
+-- Assumes nothing.
+use Prim.Native.Nat.{ℕ, _+_, _-_, _*_, _≤_, _<_}
+use mathlib.Core.Path.{_≡_}
+use mathlib.Core.List.{List}
+use lib.ListN.{length, getD}
+use Rattle.lists.specs.Run.{nth}
+use Rattle.line.specs.Sum.{sum_from_to_}
+use Rattle.line.specs.Cells.{Table, Book, excessOn, arrivalOn, lesser, choice, under}
+use Rattle.line.specs.Ranges.{limit}
+use Rattle.sheet.specs.Format.{pairsOf}
+use Rattle.sheet.specs.Pairs.{fieldOfPair}
+use Rattle.cells.specs.Place.{place, tableOf}
+use Rattle.cells.specs.Given.{leavingIn, boardedIn, aboardIn, runningIn, Given, CellsInRange}
+use Rattle.cells.specs.Shown.{byteOf}
+
+-- ---- sums
+
+-- those who board at i and leave at j, in a list of passenger fields
+unfoldable pub pairIn : ℕ → List ℕ → ℕ → ℕ → ℕ
+pairIn m passengers i j = nth passengers (fieldOfPair m i j)
+
+-- the fields of a line of m trains, each at most 10,000
+pub record Fields (m : ℕ) (passengers : List ℕ) : Type 0 where
+  pub trains : m ≤ 64
+  pub long : pairsOf m ≤ length passengers
+  pub most : (f : ℕ) → 1 ≤ f → f ≤ pairsOf m → nth passengers f ≤ 10000
+
+-- those who board at k to l and leave train l, in place (k, l)
+abbrev pub SumAt : ℕ → List ℕ → List ℕ → ℕ → ℕ → Type 0
+SumAt m passengers sums k l = leavingIn sums k l ≡ sum (λ i. pairIn m passengers i (l + 1)) from k to l
+
+-- the column of train l is summed, the others are as they were
+pub record ColumnSummed (m : ℕ) (passengers : List ℕ) (l : ℕ) (before after : List ℕ) : Type 0 where
+  pub long : length after ≡ length before
+  pub summed : (k : ℕ) → 1 ≤ k → k ≤ l → SumAt m passengers after k l
+  pub others : (k t : ℕ) → 1 ≤ t → t ≤ 64 → ¬ (t ≡ l) → leavingIn after k t ≡ leavingIn before k t
+
+pub record Summed (m : ℕ) (passengers sums : List ℕ) : Type 0 where
+  pub long : length sums ≡ 4096
+  pub summed : (k l : ℕ) → 1 ≤ k → k ≤ l → l ≤ m → SumAt m passengers sums k l
+
+-- by train l, those who board at l or later and leave
+pub record Wholes (m : ℕ) (sums whole : List ℕ) : Type 0 where
+  pub long : length whole ≡ 64
+  pub held : (l : ℕ) → 1 ≤ l → l ≤ m → nth whole l ≡ boardedIn m sums l l
+
+-- ---- a row
+
+-- the run from k: the excess at each station, and what keep costs there but for the cell after it
+pub record Stays (m k : ℕ) (slack source sums excess keep : List ℕ) : Type 0 where
+  pub long-excess : length excess ≡ 64
+  pub long-keep : length keep ≡ 64
+  pub late : (l : ℕ) → k ≤ l → l ≤ m → nth excess l ≡ excessOn (runningIn slack source) k l
+  pub kept : (l : ℕ) → k ≤ l → l ≤ m → nth keep l ≡ leavingIn sums k l * arrivalOn (runningIn slack source) k l
+
+-- and what go costs there but for the cell on the diagonal
+pub record Goes (m k : ℕ) (period sums go : List ℕ) : Type 0 where
+  pub long : length go ≡ 64
+  pub first : nth go k ≡ 0
+  pub gone : (l : ℕ) → k < l → l ≤ m → nth go l ≡ nth period l * aboardIn m sums k l
+
+-- cells (l, l) of the rows after t; 0 elsewhere
+pub record Diagonal (m t : ℕ) (cells diagonal : List ℕ) : Type 0 where
+  pub long : length diagonal ≡ 64
+  pub held : (l : ℕ) → t < l → l ≤ m → nth diagonal l ≡ tableOf m cells l l
+  pub rest : (l : ℕ) → 1 ≤ l → l ≤ t → nth diagonal l ≡ 0
+
+-- more than any row can come to
+abbrev pub ceiling : ℕ
+ceiling = 64 * limit
+
+-- row k of n cells: lists that hold its stations, and numbers that can be added
+pub record RowRoom (k n : ℕ) (excess keep go diagonal : List ℕ) : Type 0 where
+  pub first : 1 ≤ k
+  pub last : k + n ≤ 65
+  pub long-excess : length excess ≡ 64
+  pub long-keep : length keep ≡ 64
+  pub long-go : length go ≡ 64
+  pub long-diagonal : length diagonal ≡ 64
+  pub keep-most : (l : ℕ) → k ≤ l → l < k + n → nth keep l ≤ limit
+  pub go-most : (l : ℕ) → k ≤ l → l < k + n → nth go l ≤ limit
+  pub diagonal-most : (l : ℕ) → k ≤ l → l < k + n → nth diagonal l ≤ ceiling
+
+-- each cell is the lesser choice, the cell after the last being 0
+pub record RowFilled (k : ℕ) (excess keep go diagonal before after : List ℕ) : Type 0 where
+  pub long : length after ≡ length before
+  pub cells : (j : ℕ) → j < length after
+      → getD after j 0
+      ≡ lesser (nth excess (k + j)) (nth keep (k + j) + getD after (j + 1) 0) (nth go (k + j) + nth diagonal (k + j))
+  pub most : getD after 0 0 ≤ ceiling
+
+-- what the rows from t down are worked from, the cells on the diagonal of later rows being at most the limit
+pub record RowsGiven (m t : ℕ) (cells slack source period sums : List ℕ) : Type 0 where
+  pub given : Given m slack source period sums
+  pub last : t ≤ m
+  pub long : length cells ≡ 4096
+  pub later : (l : ℕ) → t < l → l ≤ m → tableOf m cells l l ≤ limit
+
+-- ---- the walk
+
+-- the walk stands at station l, on the run from k; train l - 1 arrived late by x
+pub record StepGiven (m k l x : ℕ) (cells slack source period sums : List ℕ) : Type 0 where
+  pub given : Given m slack source period sums
+  pub first : 1 ≤ k
+  pub run : k < l
+  pub last : l ≤ m
+  pub long : length cells ≡ 4096
+  pub range : CellsInRange m cells
+  pub late : x ≡ arrivalOn (runningIn slack source) k (l - 1)
+
+-- what the station decides, the train that the run then begins with, and how late train l arrives
+pub record Stepped (B : Book) (c : Table) (k l shows begins arrives : ℕ) : Type 0 where
+  pub byte : shows ≡ byteOf (choice B c k l)
+  pub first : begins ≡ under (choice B c k l) k l
+  pub late : arrives ≡ arrivalOn (B .running) (under (choice B c k l) k l) l
+
+pub record WalkGiven (m : ℕ) (cells slack source period sums : List ℕ) : Type 0 where
+  pub given : Given m slack source period sums
+  pub long : length cells ≡ 4096
+  pub range : CellsInRange m cells

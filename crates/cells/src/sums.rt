@@ -1,0 +1,94 @@
+// How many leave each train, by where they boarded: place (k, l) of a square holds those who board
+// at station k or later and leave train l.
+ghost use mathlib.Core.Path.{_≡_};
+ghost use Prim.Native.Nat.{_-_, _≤_};
+ghost use lib.ListN.{length};
+ghost use Rattle.line.specs.Ranges.{everyone};
+ghost use Rattle.sheet.specs.Pairs.{IsPair};
+ghost use Rattle.cells.specs.Given.{leavingIn, boardedIn, SumsGiven};
+ghost use Rattle.cells.specs.Steps.{pairIn, Fields, ColumnSummed, Summed, Wholes};
+use crate::place::square;
+use rail::Station;
+use rail::Train;
+use sheet::format::field_of_pair;
+
+// Those who board at one station and leave at another.
+fn pair(passengers: &[u32], m: u32, from: Station, to: Station) -> u32
+    requires { ⌜ Fields m (now passengers) × IsPair m (from .0) (to .0) ⌝ }
+    ensures { λ r. ⌜ (r ≡ pairIn m (now (passengers .entry)) (from .0) (to .0)) × (r ≤ 10000) ⌝ }
+{
+    passengers[field_of_pair(m, from, to) - 1]
+}
+
+// The column of one train, from those who board it last to those who board at station 1.
+fn sum_column(sums: &mut [u32], passengers: &[u32], m: u32, train: Train)
+    requires { ⌜ Fields m (now passengers) × (length (now sums) ≡ 4096) × (1 ≤ train .0) ×
+        (train .0 ≤ m) ⌝ }
+    ensures { λ _. ⌜ ColumnSummed m (now (passengers .entry)) (train .0) (now (sums .entry))
+        (now (sums .exit)) ⌝ }
+{
+    let to = train.reaches();
+    let mut sum: u32 = 0;
+    let mut k = train.0;
+    while 0 < k {
+        sum += pair(passengers, m, Station(k), to);
+        let at = square(k, train.0);
+        sums[at] = sum;
+        k -= 1;
+    }
+}
+
+// The sums of a line.
+pub fn sums_of(passengers: &[u32], m: u32) -> [u32; 4096]
+    requires { ⌜ Fields m (now passengers) ⌝ }
+    ensures { λ r. ⌜ Summed m (now (passengers .entry)) r ⌝ }
+{
+    let mut sums = [0u32; 4096];
+    let mut i = 1;
+    while i <= m {
+        sum_column(&mut sums, passengers, m, Train(i));
+        i += 1;
+    }
+    sums
+}
+
+// Those who board at `first` or later and leave `train`.
+pub fn leaving(sums: &[u32], m: u32, first: Train, train: Train) -> u64
+    requires { ⌜ SumsGiven m (now sums) × (1 ≤ first .0) × (first .0 ≤ train .0) ×
+        (train .0 ≤ m) ⌝ }
+    ensures { λ r. ⌜ (r ≡ leavingIn (now (sums .entry)) (first .0) (train .0)) ×
+        (r ≤ everyone) ⌝ }
+{
+    let persons = sums[square(first.0, train.0)];
+    persons as u64
+}
+
+// Those who board at `first` or later and leave `train` or a later one.
+pub fn boarded(sums: &[u32], m: u32, first: Train, train: Train) -> u64
+    requires { ⌜ SumsGiven m (now sums) × (1 ≤ first .0) × (first .0 ≤ train .0) ×
+        (train .0 ≤ m) ⌝ }
+    ensures { λ r. ⌜ r ≡ boardedIn m (now (sums .entry)) (first .0) (train .0) ⌝ }
+{
+    let mut sum: u64 = 0;
+    let mut t = m;
+    while train.0 <= t {
+        sum += leaving(sums, m, first, Train(t));
+        t -= 1;
+    }
+    sum
+}
+
+// By train, those who board it or a later one.
+pub fn wholes(sums: &[u32], m: u32) -> [u64; 64]
+    requires { ⌜ SumsGiven m (now sums) ⌝ }
+    ensures { λ r. ⌜ Wholes m (now (sums .entry)) r ⌝ }
+{
+    let mut whole = [0u64; 64];
+    let mut i = 1;
+    while i <= m {
+        let train = Train(i);
+        whole[train.index()] = boarded(sums, m, train, train);
+        i += 1;
+    }
+    whole
+}

@@ -1,0 +1,78 @@
+-- `format::field_of_pair` meets its contract: half of a product, which is small.
+-- Assumes nothing.
+use borrow.Author.Needs.{needs}
+use mathlib.Core.Path.{_≡_, sym}
+use native.Mathlib.Nat.{le-trans, le-of-eq}
+use native.Mathlib.Omega.{arith}
+use Prim.Native.Nat.{_+_, _-_, _*_, _≤_}
+use Rattle.sheet.specs.Pairs.{fieldsUpTo}
+use Rattle.sheet.proofs.Lengths.{pairs-le}
+use Rattle.sheet.proofs.Pairs.{fields-closed, field-closed, fields-mono, fields-all, pair-has-field}
+use Rattle.sheet.proofs.format.field_of_pair.Statement.{statement}
+use Rattle.sheet.proofs.format.field_of_pair.Tie as tie
+
+index-requires : tie.Need-index-requires
+index-requires c κs = search needs
+
+mul-result : tie.Need-mul-result
+mul-result c = search needs
+
+add-result : tie.Need-add-result
+add-result c = search needs
+
+sub-result : tie.Need-sub-result
+sub-result c = search needs
+
+-- the product is twice the fields of the stations before
+before-fields : (c : tie.After-index) →
+    let m = c .before .args .m in
+    let k = c .index .result in
+    (k * (2 * m + 1 - k) ≡ 2 * fieldsUpTo m k) × (fieldsUpTo m k ≤ 2080) × (k ≤ m)
+before-fields c =
+    let m = c .before .args .m in
+    let k = c .index .result in
+    let pair = c .before .pre .1 in
+    let inside : k ≤ m = omega (arith, c .index .ensures, pair .apart, pair .most) in
+    (fields-closed m k inside,
+    omega (arith, fields-mono m k m inside, fields-all m, pairs-le m (c .before .pre .0)),
+    inside)
+
+mul-result-2 : tie.Need-mul-result-2
+mul-result-2 c = omega (arith, before-fields c)
+
+sub-result-2 : tie.Need-sub-result-2
+sub-result-2 c = search needs
+
+cast-result : tie.Need-cast-result
+cast-result c = search needs
+
+add-result-2 : tie.Need-add-result-2
+add-result-2 c =
+    let at-index = c .before .before in
+    omega (arith, before-fields at-index, at-index .before .pre .1 .most, at-index .before .pre .0)
+
+returns : tie.Need-returns
+returns c =
+    let at-index = c .before .before in
+    let start = at-index .before in
+    let m = start .args .m in
+    let k = at-index .index .result in
+    let i = start .args .from .0 in
+    let j = start .args .to .0 in
+    let e = field-closed m k i j (at-index .index .ensures) (omega (arith, before-fields at-index .2)) in
+    (e, le-trans (pair-has-field m i j (start .pre .1) .0) (le-of-eq (sym e)),
+    le-trans (le-of-eq e) (pair-has-field m i j (start .pre .1) .1))
+
+pub field-of-pair-spec : {M : Type 1} → statement M
+field-of-pair-spec =
+    tie.close
+    (tie.spec
+    index-requires
+    mul-result
+    add-result
+    sub-result
+    mul-result-2
+    sub-result-2
+    cast-result
+    add-result-2
+    returns)
