@@ -8,7 +8,7 @@
 --   RunningGiven, PeriodGiven, SumsGiven, Given     the lists have the right lengths, and their numbers are in range
 --   CellsInRange m cells                  every cell in use is at most document 01's limit
 -- Assumes nothing.
-use Prim.Native.Nat.{ℕ, _+_, _-_, _≤_}
+use Prim.Native.Nat.{ℕ, _+_, _-_, _≤_, _<_}
 use mathlib.Core.Path.{_≡_}
 use mathlib.Core.List.{List}
 use lib.ListN.{length, getD}

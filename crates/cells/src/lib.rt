@@ -4,4 +4,5 @@
 pub mod place;
 pub mod rows;
 pub mod sums;
+pub mod times;
 pub mod walk;

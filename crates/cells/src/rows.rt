@@ -1,8 +1,7 @@
 // Rows of cells, each from the later rows as they stand.
 ghost use mathlib.Core.Path.{_≡_};
-ghost use Prim.Native.Nat.{_+_, _-_, _*_, _≤_};
+ghost use Prim.Native.Nat.{_*_, _≤_};
 ghost use lib.ListN.{length};
-ghost use Rattle.lists.specs.Run.{nth};
 ghost use Rattle.line.specs.Cells.{lesser};
 ghost use Rattle.line.specs.Ranges.{latest, everyone, limit};
 ghost use Rattle.cells.specs.Place.{RowsWorked};
@@ -11,45 +10,12 @@ ghost use Rattle.cells.specs.Steps.{Stays, Goes, Wholes, Diagonal, RowRo
 use crate::place::cell_at;
 use crate::place::place;
 use crate::sums::leaving;
+use crate::times::arrives;
+use crate::times::cost;
+use crate::times::excess_at;
+use crate::times::period_at;
 use crate::sums::wholes;
-use rail::Station;
 use rail::Train;
-
-// What is left of the feeder's arrival delay once the slack at the station is used up.
-pub fn excess_at(slack: &[u32], station: Station, late: u64) -> u64
-    requires { ⌜ (1 ≤ station .0) × (station .0 ≤ length (now slack)) ⌝ }
-    ensures { λ r. ⌜ r ≡ late - nth (now (slack .entry)) (station .0) ⌝ }
-{
-    let minutes = slack[station.index()];
-    let given = minutes as u64;
-    if given < late { late - given } else { 0 }
-}
-
-// A train's arrival delay by its departure delay.
-pub fn arrives(source: &[u32], train: Train, departs: u64) -> u64
-    requires { ⌜ (1 ≤ train .0) × (train .0 ≤ length (now source)) × (departs ≤ latest) ⌝ }
-    ensures { λ r. ⌜ r ≡ departs + nth (now (source .entry)) (train .0) ⌝ }
-{
-    let minutes = source[train.index()];
-    departs + minutes as u64
-}
-
-// The period at a station: the minutes that each passenger counts who misses the connection there.
-pub fn period_at(period: &[u32], station: Station) -> u64
-    requires { ⌜ (1 ≤ station .0) × (station .0 ≤ length (now period)) ⌝ }
-    ensures { λ r. ⌜ r ≡ nth (now (period .entry)) (station .0) ⌝ }
-{
-    let minutes = period[station.index()];
-    minutes as u64
-}
-
-// What so many passengers count.
-pub fn times(persons: u64, minutes: u64) -> u64
-    requires { ⌜ (persons ≤ everyone) × (minutes ≤ latest) ⌝ }
-    ensures { λ r. ⌜ (r ≡ persons * minutes) × (r ≤ limit) ⌝ }
-{
-    persons * minutes
-}
 
 // The excess at each station of a run, and what keep costs there but for the cell after it.
 pub struct Staying {
@@ -57,7 +23,7 @@ pub struct Staying {
     pub keep: [u64; 64],
 }
 
-fn staying(first: Train, m: u32, slack: &[u32], source: &[u32], sums: &[u32]) -> Staying
+fn stay_along(first: Train, m: u32, slack: &[u32], source: &[u32], sums: &[u32]) -> Staying
     requires { ⌜ (1 ≤ first .0) × (first .0 ≤ m) × RunningGiven m (now slack) (now source) ×
         SumsGiven m (now sums) ⌝ }
     ensures { λ r. ⌜ Stays m (first .0) (now (slack .entry)) (now (source .entry))
@@ -73,14 +39,14 @@ fn staying(first: Train, m: u32, slack: &[u32], source: &[u32], sums: &[u32]) ->
         late = arrives(source, train, over);
         let k = train.index();
         excess[k] = over;
-        keep[k] = times(leaving(sums, m, first, train), late);
+        keep[k] = cost(leaving(sums, m, first, train), late);
         i += 1;
     }
     Staying { excess, keep }
 }
 
 // By station of a run after its first: what go costs there but for the cell on the diagonal.
-fn going(first: Train, m: u32, period: &[u32], sums: &[u32], whole: &[u64]) -> [u64; 64]
+fn go_along(first: Train, m: u32, period: &[u32], sums: &[u32], whole: &[u64]) -> [u64; 64]
     requires { ⌜ (1 ≤ first .0) × (first .0 ≤ m) × PeriodGiven m (now period) ×
         SumsGiven m (now sums) × Wholes m (now sums) (now whole) ⌝ }
     ensures { λ r. ⌜ Goes m (first .0) (now (period .entry)) (now (sums .entry)) r ⌝ }
@@ -92,7 +58,7 @@ fn going(first: Train, m: u32, period: &[u32], sums: &[u32], whole: &[u64]) -> [
         let train = Train(i);
         let k = train.index();
         sum += leaving(sums, m, first, train);
-        go[k] = times(sum - whole[k], period_at(period, train.leaves()));
+        go[k] = cost(sum - whole[k], period_at(period, train.leaves()));
         i -= 1;
     }
     go
@@ -170,10 +136,10 @@ pub fn work_rows(
     let mut i = last.0;
     while 0 < i {
         let train = Train(i);
-        let stay = staying(train, m, slack, source, sums);
+        let stay = stay_along(train, m, slack, source, sums);
         let excess = stay.excess;
         let keep = stay.keep;
-        let go = going(train, m, period, sums, &whole);
+        let go = go_along(train, m, period, sums, &whole);
         let a = place(m, train, train.leaves());
         let b = a + (m + 1 - i) as usize;
         fill_row(&mut cells[a..b], train, &excess, &keep, &go, &diagonal);

@@ -8,6 +8,7 @@ ghost use Rattle.sheet.specs.Pairs.{IsPair};
 ghost use Rattle.cells.specs.Given.{leavingIn, boardedIn, SumsGiven};
 ghost use Rattle.cells.specs.Steps.{pairIn, Fields, ColumnSummed, Summed, Wholes};
 use crate::place::square;
+use crate::times::wide;
 use rail::Station;
 use rail::Train;
 use sheet::format::field_of_pair;
@@ -59,8 +60,7 @@ pub fn leaving(sums: &[u32], m: u32, first: Train, train: Train) -> u64
     ensures { λ r. ⌜ (r ≡ leavingIn (now (sums .entry)) (first .0) (train .0)) ×
         (r ≤ everyone) ⌝ }
 {
-    let persons = sums[square(first.0, train.0)];
-    persons as u64
+    wide(sums, square(first.0, train.0))
 }
 
 // Those who board at `first` or later and leave `train` or a later one.

@@ -12,12 +12,12 @@ ghost use Rattle.cells.specs.Given.{PeriodGiven, CellsInRange};
 ghost use Rattle.cells.specs.Shown.{byteOf, shown};
 ghost use Rattle.cells.specs.Steps.{StepGiven, Stepped, WalkGiven};
 use crate::place::cell_at;
-use crate::rows::arrives;
-use crate::rows::excess_at;
-use crate::rows::period_at;
-use crate::rows::times;
 use crate::sums::boarded;
 use crate::sums::leaving;
+use crate::times::arrives;
+use crate::times::cost;
+use crate::times::excess_at;
+use crate::times::period_at;
 use rail::Train;
 
 // A decision as document 01 shows it.
@@ -32,7 +32,7 @@ fn keep_cost(cells: &[u64], m: u32, first: Train, train: Train, late: u64, sums:
     ensures { λ r. ⌜ r ≡ leavingIn (now (sums .entry)) (first .0) (train .0) * late
         + tableOf m (now (cells .entry)) (first .0) (train .0 + 1) ⌝ }
 {
-    times(leaving(sums, m, first, train), late) + cell_at(cells, m, first, train.reaches())
+    cost(leaving(sums, m, first, train), late) + cell_at(cells, m, first, train.reaches())
 }
 
 // Go at that station.
@@ -45,7 +45,7 @@ fn go_cost(cells: &[u64], m: u32, first: Train, train: Train, period: &[u32], su
 {
     let aboard = boarded(sums, m, first, train) - boarded(sums, m, train, train);
     let station = train.leaves();
-    times(aboard, period_at(period, station)) + cell_at(cells, m, train, station)
+    cost(aboard, period_at(period, station)) + cell_at(cells, m, train, station)
 }
 
 // The lesser choice, and keep when equal or where there is no excess.
@@ -67,7 +67,7 @@ pub struct Step {
 }
 
 // The step of `train`, on the run from `first`, its feeder having arrived so late.
-fn step(
+fn decide_at(
     first: Train,
     train: Train,
     late: u64,
@@ -139,7 +139,7 @@ pub fn follow(
     let mut i = 2;
     while i <= m {
         let train = Train(i);
-        let step = step(Train(first), train, late, cells, m, slack, source, period, sums);
+        let step = decide_at(Train(first), train, late, cells, m, slack, source, period, sums);
         let k = train.index();
         first = step.first;
         late = step.late;

@@ -1,0 +1,107 @@
+-- The sums of a line, column by column: in the column of train l each place is the one below it and one pair more.
+--   ColumnTo m passengers l before sums n k   the places (k + 1, l) to (l, l) are summed, the last sum being n
+-- Assumes nothing.
+use mathlib.Core.Path.{_≡_, refl, ap, sym, _∙_}
+use mathlib.Core.List.{List}
+use mathlib.Core.Logic.{inl, inr}
+use Prim.Native.Nat.{ℕ, _+_, _-_, _*_, _≤_, _<_}
+use native.Mathlib.Nat.{le-refl}
+use native.Mathlib.Omega.{arith}
+use lib.ListN.{length, getD, set, length-set}
+use lib.Seq.{getD-set-same, getD-set-other}
+use Rattle.lists.proofs.Order.{same-or-not}
+use Rattle.line.specs.Sum.{sum_from_to_}
+use Rattle.line.proofs.Sums.{over, sum-over, over-none, over-first}
+use Rattle.cells.specs.Place.{square}
+use Rattle.cells.specs.Given.{leavingIn}
+use Rattle.cells.specs.Steps.{pairIn, SumAt, ColumnSummed}
+
+pub record ColumnTo (m : ℕ) (passengers : List ℕ) (l : ℕ) (before sums : List ℕ) (n k : ℕ) : Type 0 where
+  pub most : k ≤ l
+  pub long : length sums ≡ length before
+  pub here : n ≡ over (k + 1) (l + 1) (λ i. pairIn m passengers i (l + 1))
+  pub small : n ≤ (l - k) * 10000
+  pub summed : (i : ℕ) → k < i → i ≤ l → SumAt m passengers sums i l
+  pub others : (i t : ℕ) → 1 ≤ t → t ≤ 64 → ¬ (t ≡ l) → leavingIn sums i t ≡ leavingIn before i t
+
+-- place (k, l) is stored: it holds the number, and other columns and rows are as they were
+module _ (sums : List ℕ) (p k l v : ℕ) (at : p ≡ square k l) (first : 1 ≤ k) (column : 1 ≤ l) (most : l ≤ 64) where
+  stored-here : p < length sums → leavingIn (set sums p v) k l ≡ v
+  unfolding leavingIn
+  stored-here b = rw (sym at) (getD-set-same sums p v 0 b)
+
+  stored-row : (i : ℕ) → 1 ≤ i → ¬ (i ≡ k) → leavingIn (set sums p v) i l ≡ leavingIn sums i l
+  unfolding leavingIn square
+  stored-row i a n = getD-set-other sums p (64 * (i - 1) + (l - 1)) v 0 (λ e. n (omega arith))
+
+  stored-column : (i t : ℕ) → 1 ≤ t → t ≤ 64 → ¬ (t ≡ l) → leavingIn (set sums p v) i t ≡ leavingIn sums i t
+  unfolding leavingIn square
+  stored-column i t a b n = getD-set-other sums p (64 * (i - 1) + (t - 1)) v 0 (λ e. n (omega arith))
+
+module _ (m : ℕ) (passengers : List ℕ) (l : ℕ) (before : List ℕ) where
+  abbrev pairs : ℕ → ℕ
+  pairs i = pairIn m passengers i (l + 1)
+
+  pub column-start : ColumnTo m passengers l before before 0 l
+  column-start =
+      record {
+        most = le-refl l;
+        long = refl;
+        here = sym (over-none (l + 1) (l + 1) pairs (le-refl _));
+        small = omega arith;
+        summed = λ i a b. absurd (omega arith);
+        others = λ i t a b n. refl;
+      }
+
+  module _ (sums : List ℕ) (n k p v : ℕ) (C : ColumnTo m passengers l before sums n k) (first : 1 ≤ k) (most : l ≤ 64)
+      (at : p ≡ square k l) (room : p < length sums) (e : v ≡ pairs k) (few : v ≤ 10000) where
+    next-sum : n + v ≡ over k (l + 1) pairs
+    next-sum = omega (arith, C .here, over-first k (l + 1) pairs (omega (arith, C .most)), e)
+
+    next-at : (i : ℕ) → k - 1 < i → i ≤ l → SumAt m passengers (set sums p (n + v)) i l
+    next-at i a b = elim (same-or-not i k) [
+      | inl same ↦ rw same
+          (stored-here sums p k l (n + v) at first (omega arith) most room ∙ next-sum ∙ sym (sum-over pairs k l))
+      | inr not ↦
+          stored-row sums p k l (n + v) at first (omega arith) most i (omega arith) not ∙ C .summed i (omega arith) b
+    ]
+
+    pub column-next : ColumnTo m passengers l before (set sums p (n + v)) (n + v) (k - 1)
+    column-next =
+        let back : k - 1 + 1 ≡ k = omega arith in
+        record {
+          most = omega (arith, C .most);
+          long = length-set sums p (n + v) ∙ C .long;
+          here = rw back next-sum;
+          small = omega (arith, C .small, C .most);
+          summed = next-at;
+          others = λ i t a b not.
+              stored-column sums p k l (n + v) at first (omega (arith, C .most)) most i t a b not ∙ C .others i t a b not;
+        }
+
+  pub column-end : (sums : List ℕ) (n k : ℕ) → ColumnTo m passengers l before sums n k → k ≡ 0
+      → ColumnSummed m passengers l before sums
+  column-end sums n k C e =
+      record { long = C .long; summed = λ i a b. C .summed i (omega arith) b; others = C .others }
+
+-- ---- all columns
+
+-- the columns before i are summed
+pub record SummedTo (m : ℕ) (passengers sums : List ℕ) (i : ℕ) : Type 0 where
+  pub least : 1 ≤ i
+  pub most : i ≤ m + 1
+  pub long : length sums ≡ 4096
+  pub summed : (k l : ℕ) → 1 ≤ k → k ≤ l → l < i → SumAt m passengers sums k l
+
+pub summed-next : (m : ℕ) (passengers sums sums′ : List ℕ) (i : ℕ) → m ≤ 64 → SummedTo m passengers sums i → i ≤ m
+    → ColumnSummed m passengers i sums sums′ → SummedTo m passengers sums′ (i + 1)
+summed-next m passengers sums sums′ i few S last C =
+    record {
+      least = omega arith;
+      most = omega arith;
+      long = C .long ∙ S .long;
+      summed = λ k l a b c. elim (same-or-not l i) [
+        | inl same ↦ rw same (C .summed k a (omega arith))
+        | inr not ↦ C .others k l (omega arith) (omega arith) not ∙ S .summed k l a b (omega arith)
+      ];
+    }

@@ -1,0 +1,38 @@
+-- `place::cell_at` meets its contract: a cell in use, or 0 past the last column.
+-- Assumes nothing.
+use borrow.Author.Needs.{needs}
+use mathlib.Core.Path.{_≡_, sym, ap, _∙_}
+use mathlib.Core.List.{List}
+use Prim.Native.Nat.{ℕ, _<_}
+use native.Mathlib.Omega.{arith}
+use lib.ListN.{getD}
+use Rattle.cells.proofs.Places.{place-lt, table-in, table-past}
+use Rattle.cells.proofs.place.cell_at.Statement.{statement}
+use Rattle.cells.proofs.place.cell_at.Tie as tie
+
+place-requires : tie.Need-place-requires
+place-requires c κs = search needs
+
+within : (c : tie.After-place) → c .place .result < 4096
+within c =
+    let start = c .before .before .before .before in
+    rw (c .place .ensures)
+    (place-lt _ _ _ (start .pre .0) (start .pre .1) (c .before .if1 .taken) (start .pre .2))
+
+mul-result : tie.Need-mul-result
+mul-result c = omega (arith, within c)
+
+shared-slice-read-result : tie.Need-shared-slice-read-result
+shared-slice-read-result c = omega (arith, within (c .before), c .before .before .before .before .before .pre .3)
+
+returns : tie.Need-returns
+returns c =
+    ap (λ (p : ℕ). getD (c .before .before .before .before .before .args .cells .now) p 0) (c .before .place .ensures)
+    ∙ sym (table-in _ _ _ _ (c .before .before .if1 .taken))
+
+returns-2 : tie.Need-returns-2
+returns-2 c = sym (table-past _ _ _ _ (c .if1 .left))
+
+pub cell-at-spec : {M : Type 1} → statement M
+cell-at-spec =
+    tie.close (tie.spec place-requires mul-result shared-slice-read-result returns returns-2)

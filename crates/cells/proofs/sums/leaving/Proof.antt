@@ -1,0 +1,33 @@
+-- `sums::leaving` meets its contract.
+-- Assumes nothing.
+use borrow.Author.Needs.{needs}
+use mathlib.Core.Path.{_≡_, sym, ap, _∙_}
+use Prim.Native.Nat.{ℕ}
+use native.Mathlib.Nat.{le-trans, le-of-eq}
+use lib.ListN.{getD}
+use Rattle.cells.specs.Given.{leavingIn}
+use Rattle.cells.proofs.Leavers.{leaving-le}
+use Rattle.cells.proofs.sums.leaving.Statement.{statement}
+use Rattle.cells.proofs.sums.leaving.Tie as tie
+
+square-requires : tie.Need-square-requires
+square-requires c κs = search needs
+
+wide-requires : tie.Need-wide-requires
+wide-requires c κs = search needs
+
+held : (c : tie.After-wide) →
+    let start = c .before .before .before .args in
+    c .wide .result ≡ leavingIn (start .sums .now) (start .first .0) (start .train .0)
+unfolding leavingIn
+held c =
+    c .wide .ensures
+    ∙ ap (λ (p : ℕ). getD (c .before .before .before .args .sums .now) p 0) (c .before .square .ensures .0)
+
+returns : tie.Need-returns
+returns c =
+    let p = c .before .before .before .pre in
+    (held c, le-trans (le-of-eq (held c)) (leaving-le _ _ (p .0) _ _ (p .1) (p .2) (p .3)))
+
+pub leaving-spec : {M : Type 1} → statement M
+leaving-spec = tie.close (tie.spec square-requires wide-requires returns)

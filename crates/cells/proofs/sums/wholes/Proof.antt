@@ -1,0 +1,74 @@
+-- `sums::wholes` meets its contract. Invariant: the entries before i are held. Measure: the trains left.
+-- Assumes nothing.
+use borrow.Author.Needs.{needs}
+use mathlib.Core.Path.{_≡_, refl}
+use Prim.Native.Nat.{_+_, _-_, _≤_, _<_}
+use native.Mathlib.Omega.{arith}
+use lib.ListN.{length, length-set}
+use Rattle.cells.specs.Given.{boardedIn}
+use Rattle.cells.proofs.Held.{Held, held-set}
+use Rattle.cells.proofs.sums.wholes.Statement.{statement}
+use Rattle.cells.proofs.sums.wholes.Tie as tie
+
+abbrev Inv-loop : tie.InvT-loop
+Inv-loop sums m whole₀ i₀ whole i =
+    (1 ≤ i) × (i ≤ m + 1) × (length whole ≡ 64) × Held whole (λ l. boardedIn m sums l l) 1 i
+
+abbrev μ-loop : tie.MeasureT-loop
+μ-loop sums m whole₀ i₀ whole i = m + 1 - i
+
+loop-holds : tie.Need-loop-holds Inv-loop μ-loop
+loop-holds c = (omega arith, omega arith, refl, λ l a b. absurd (omega arith))
+
+boarded-requires : tie.Need-boarded-requires Inv-loop μ-loop
+boarded-requires c κs = search needs
+
+index-requires : tie.Need-index-requires Inv-loop μ-loop
+index-requires c κs = search needs
+
+within : (c : tie.After-index Inv-loop μ-loop) → (c .index .result < 64) × (c .before .before .before .loop .i ≤ 64)
+within c =
+    let most = c .before .before .before .before .before .pre .trains in
+    (omega (arith, c .index .ensures), omega arith)
+
+mul-whole : tie.Need-mul-whole Inv-loop μ-loop
+mul-whole c = omega (arith, within c)
+
+array-write-whole : tie.Need-array-write-whole Inv-loop μ-loop
+array-write-whole c = within c .0
+
+add-i : tie.Need-add-i Inv-loop μ-loop
+add-i c = omega (arith, within c)
+
+loop-less : tie.Need-loop-less Inv-loop μ-loop
+loop-less c = search needs
+
+loop-again : tie.Need-loop-again Inv-loop μ-loop
+loop-again c =
+    let at-loop = c .before .before .before .loop in
+    let inv = at-loop .inv in
+    (omega arith, omega arith, simp length-set (inv .2),
+    held-set (at-loop .whole) (c .index .result) (at-loop .i) _ (c .index .ensures) (inv .0) _ 1 (at-loop .i + 1)
+    (omega arith) (omega (arith, within c, inv .2)) (c .before .boarded .ensures)
+    (λ l a b n. inv .3 l a (omega arith)))
+
+returns : tie.Need-returns Inv-loop μ-loop
+returns c =
+    let inv = c .before .loop .inv in
+    record { long = inv .2; held = λ l a b. inv .3 l a (omega arith) }
+
+pub wholes-spec : {M : Type 1} → statement M
+wholes-spec =
+    tie.close
+    (tie.spec
+    Inv-loop
+    μ-loop
+    loop-holds
+    boarded-requires
+    index-requires
+    mul-whole
+    array-write-whole
+    add-i
+    loop-less
+    loop-again
+    returns)

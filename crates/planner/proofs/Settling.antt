@@ -1,0 +1,94 @@
+-- Settled work: it reads no more of a book than books alike have in common, and on the book of a line it is the plan.
+-- The rows are those of document 01, so that what is read off them is the plan and cell (1, 1) is its total.
+-- Assumes nothing.
+use mathlib.Core.Path.{_≡_, ap, sym, _∙_}
+use mathlib.Core.Logic.{inl, inr}
+use mathlib.Core.List.{List}
+use Prim.Native.Nat.{ℕ, _+_, _≤_}
+use native.Mathlib.Omega.{arith}
+use Rattle.lists.specs.Choice.{ifBelow}
+use Rattle.lists.specs.Run.{padded}
+use Rattle.lists.proofs.Choice.{below-no}
+use Rattle.lists.proofs.Order.{lt-or-ge}
+use Rattle.lists.proofs.Run.{padded-length, padded-at, padded-past, padded-ext}
+use Rattle.line.specs.Line.{Line}
+use Rattle.line.specs.Policy.{Decision, Policy, arrival}
+use Rattle.line.specs.Cells.{Book, bookOf, decide}
+use Rattle.line.specs.Alike.{BooksAlike}
+use Rattle.line.proofs.Following.{first-on-time}
+use Rattle.line.proofs.Days.{policies-alike}
+use Rattle.line.proofs.Alike.{decide-alike}
+use Rattle.line.proofs.Worked.{decided-total, decided-is-plan}
+use Rattle.cells.specs.Place.{tableOf}
+use Rattle.cells.specs.Shown.{byteOf, shown}
+use Rattle.cells.proofs.Written.{rows-worked-alike}
+use Rattle.planner.specs.declared.Answer.the-variants.{Accepted}
+use Rattle.planner.specs.Plan.{Buffers, Planned}
+use Rattle.planner.specs.Settled.{Settled}
+
+-- ---- lists of what is the same on the trains in use
+
+pub padded-same : (size n : ℕ) (f g : ℕ → ℕ) → ((i : ℕ) → 1 ≤ i → i ≤ n → f i ≡ g i) → padded size n f ≡ padded size n g
+padded-same size n f g same =
+    padded-ext size n g (padded size n f) (padded-length size n f)
+    (λ k a b. padded-at size n f k a b ∙ same (k + 1) (omega arith) (omega arith))
+    (λ k a. padded-past size n f k a)
+
+pub shown-same : (m : ℕ) (p q : Policy) → ((i : ℕ) → 2 ≤ i → i ≤ m → p i ≡ q i) → shown m p ≡ shown m q
+unfolding shown
+shown-same m p q same =
+    padded-same 64 m _ _
+    (λ i a b. elim (lt-or-ge 1 i) [
+      | inl u ↦ ap (λ (d : Decision). ifBelow 1 i (byteOf d) 0) (same i u b)
+      | inr u ↦ below-no _ _ u ∙ sym (below-no _ _ u)
+    ])
+
+-- ---- by books alike
+
+module _ (A B : Book) (alike : BooksAlike 1 A B) (cells : List ℕ) where
+  abbrev decidedA : Policy
+  decidedA = decide A (tableOf (A .trains) cells)
+
+  abbrev decidedB : Policy
+  decidedB = decide B (tableOf (B .trains) cells)
+
+  decided-same : (i : ℕ) → 2 ≤ i → i ≤ A .trains → decidedA i ≡ decidedB i
+  decided-same =
+      decide-alike A B _ _ alike (λ k l a b c. ap (λ (m : ℕ). tableOf m cells k l) (alike .trains))
+
+  shown-alike : shown (A .trains) decidedA ≡ shown (B .trains) decidedB
+  shown-alike =
+      shown-same (A .trains) decidedA decidedB decided-same ∙ ap (λ (m : ℕ). shown m decidedB) (alike .trains)
+
+  delays-alike : padded 64 (A .trains) (arrival (A .running) decidedA)
+      ≡ padded 64 (B .trains) (arrival (B .running) decidedB)
+  delays-alike =
+      let days = policies-alike 1 (A .trains) (A .running) (B .running) decidedA decidedB (omega arith) (alike .running)
+      (first-on-time _ decidedA ∙ sym (first-on-time _ decidedB)) decided-same in
+      padded-same 64 (A .trains) _ _ (days .arrival)
+      ∙ ap (λ (m : ℕ). padded 64 m (arrival (B .running) decidedB)) (alike .trains)
+
+pub settled-alike : (A B : Book) (t : ℕ) (before after : Buffers) (n : ℕ) → BooksAlike 1 A B
+    → Settled A t before after n → Settled B t before after n
+settled-alike A B t before after n alike S =
+    record {
+      cells = rows-worked-alike A B t _ _ alike (S .cells);
+      decisions = S .decisions ∙ shown-alike A B alike (after .cells);
+      delays = S .delays ∙ delays-alike A B alike (after .cells);
+      total = S .total ∙ ap (λ (m : ℕ). tableOf m (after .cells) 1 1) (alike .trains);
+    }
+
+-- ---- the plan
+
+pub settled-planned : (L : Line) (before after : Buffers) (n : ℕ) → Settled (bookOf L) (L .trains) before after n
+    → Planned L before after (Accepted n)
+settled-planned L before after n S =
+    let worked = S .cells .worked in
+    record {
+      policy = decide (bookOf L) (tableOf (L .trains) (after .cells));
+      plan = decided-is-plan L _ _ worked;
+      answer = ap Accepted (S .total ∙ sym (decided-total L _ _ worked));
+      decisions = S .decisions;
+      delays = S .delays;
+      cells = S .cells;
+    }
