@@ -3,5 +3,8 @@ pub mod Held
 pub mod Leavers
 pub mod Summing
 pub mod Runs
+pub mod Filling
+pub mod Working
 pub mod Costs
 pub mod Written
+pub mod Walks

@@ -21,32 +21,29 @@ use Rattle.cells.proofs.Places.{table-in}
 module _ (m t p : ℕ) (few : m ≤ 64) where
   in-use-row : (u : InUse m t p) → u .row ≡ p / 64 + 1
   unfolding place square
-  in-use-row u = omega (arith, u .stands, u .least, u .run, u .last)
+  in-use-row u = omega (arith, u .cell .stands, u .least, u .cell .run, u .cell .last)
 
-  in-use-column : (u : InUse m t p) → u .column ≡ p % 64 + 1
+  in-use-column : (u : InUse m t p) → u .cell .column ≡ p % 64 + 1
   unfolding place square
-  in-use-column u = omega (arith, u .stands, u .least, u .run, u .last)
+  in-use-column u = omega (arith, u .cell .stands, u .least, u .cell .run, u .cell .last)
 
   in-use-here : p / 64 + 1 ≤ t → p / 64 + 1 ≤ p % 64 + 1 → p % 64 + 1 ≤ m → InUse m t p
   unfolding place square
   in-use-here a b c =
       record {
         row = p / 64 + 1;
-        column = p % 64 + 1;
         least = omega arith;
         most = a;
-        run = b;
-        last = c;
-        stands = omega arith;
+        cell = record { column = p % 64 + 1; run = b; last = c; stands = omega arith };
       }
 
   pub in-use-or-not : InUse m t p ⊎ ¬ (InUse m t p)
   in-use-or-not = elim (lt-or-ge t (p / 64 + 1)) [
     | inl a ↦ inr (λ u. omega (arith, in-use-row u, u .most))
     | inr a ↦ elim (lt-or-ge (p % 64 + 1) (p / 64 + 1)) [
-      | inl b ↦ inr (λ u. omega (arith, in-use-row u, in-use-column u, u .run))
+      | inl b ↦ inr (λ u. omega (arith, in-use-row u, in-use-column u, u .cell .run))
       | inr b ↦ elim (lt-or-ge m (p % 64 + 1)) [
-        | inl c ↦ inr (λ u. omega (arith, in-use-column u, u .last))
+        | inl c ↦ inr (λ u. omega (arith, in-use-column u, u .cell .last))
         | inr c ↦ inl (in-use-here a b c)
       ]
     ]
@@ -60,12 +57,13 @@ module _ (B : Book) (t : ℕ) (before after after′ : List ℕ) (few : B .train
   in-use-one : (p : ℕ) → InUse (B .trains) t p → getD after p 0 ≡ getD after′ p 0
   in-use-one p u =
       let m = B .trains in
+      let l = u .cell .column in
       let same = worked-one B t _ _ _ _ (W .worked) (W′ .worked) (λ k l a b c. refl)
-      (u .row) (u .column) (u .least) (u .run) (omega (arith, u .last)) in
-      ap (λ (q : ℕ). getD after q 0) (u .stands)
-      ∙ sym (table-in m after (u .row) (u .column) (u .last)) ∙ same
-      ∙ table-in m after′ (u .row) (u .column) (u .last)
-      ∙ ap (λ (q : ℕ). getD after′ q 0) (sym (u .stands))
+      (u .row) l (u .least) (u .cell .run) (omega (arith, u .cell .last)) in
+      ap (λ (q : ℕ). getD after q 0) (u .cell .stands)
+      ∙ sym (table-in m after (u .row) l (u .cell .last)) ∙ same
+      ∙ table-in m after′ (u .row) l (u .cell .last)
+      ∙ ap (λ (q : ℕ). getD after′ q 0) (sym (u .cell .stands))
 
   pub rows-worked-one : after ≡ after′
   rows-worked-one =

@@ -3,6 +3,7 @@
 --   square k l                    row k, column l of a square of 64 by 64 numbers, row after row
 --   place m k l                   where cell (k, l) of a line of m trains stands
 --   tableOf m cells               the table that a list of cells holds for m trains
+--   InRow m k p                   p is the place of a cell in use of row k
 --   InUse m t p                   p is the place of a cell in use of rows 1 to t
 --   RowsWorked B t before after   rows 1 to t are worked anew and nothing else is written
 -- Assumes nothing.
@@ -24,14 +25,17 @@ place m k l = square k l
 unfoldable pub tableOf : ℕ → List ℕ → Table
 tableOf m cells k l = ifBelow m l 0 (getD cells (place m k l) 0)
 
+pub record InRow (m k p : ℕ) : Type 0 where
+  pub column : ℕ
+  pub run : k ≤ column
+  pub last : column ≤ m
+  pub stands : p ≡ place m k column
+
 pub record InUse (m t p : ℕ) : Type 0 where
   pub row : ℕ
-  pub column : ℕ
   pub least : 1 ≤ row
   pub most : row ≤ t
-  pub run : row ≤ column
-  pub last : column ≤ m
-  pub stands : p ≡ place m row column
+  pub cell : InRow m row p
 
 -- Rows 1 to t are worked from the later rows as they stand. Other places are never written.
 pub record RowsWorked (B : Book) (t : ℕ) (before after : List ℕ) : Type 0 where

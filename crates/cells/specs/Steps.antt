@@ -6,11 +6,11 @@ use mathlib.Core.List.{List}
 use lib.ListN.{length, getD}
 use Rattle.lists.specs.Run.{nth}
 use Rattle.line.specs.Sum.{sum_from_to_}
-use Rattle.line.specs.Cells.{Table, Book, excessOn, arrivalOn, lesser, choice, under}
+use Rattle.line.specs.Cells.{Table, Book, excessOn, arrivalOn, keepCost, lesser, choice, under}
 use Rattle.line.specs.Ranges.{limit}
 use Rattle.sheet.specs.Format.{pairsOf}
 use Rattle.sheet.specs.Pairs.{fieldOfPair}
-use Rattle.cells.specs.Place.{place, tableOf}
+use Rattle.cells.specs.Place.{tableOf, InRow}
 use Rattle.cells.specs.Given.{leavingIn, boardedIn, aboardIn, runningIn, Given, CellsInRange}
 use Rattle.cells.specs.Shown.{byteOf}
 
@@ -89,6 +89,27 @@ pub record RowFilled (k : ℕ) (excess keep go diagonal before after : List ℕ)
       → getD after j 0
       ≡ lesser (nth excess (k + j)) (nth keep (k + j) + getD after (j + 1) 0) (nth go (k + j) + nth diagonal (k + j))
   pub most : getD after 0 0 ≤ ceiling
+
+-- what row k is worked from, over the cells on the diagonal of the later rows
+pub record RowGiven (m k : ℕ) (cells slack source period sums whole diagonal : List ℕ) : Type 0 where
+  pub given : Given m slack source period sums
+  pub first : 1 ≤ k
+  pub last : k ≤ m
+  pub long : length cells ≡ 4096
+  pub wholes : Wholes m sums whole
+  pub long-diagonal : length diagonal ≡ 64
+  pub most : (l : ℕ) → 1 ≤ l → l ≤ m → nth diagonal l ≤ ceiling
+
+-- row k is worked, x being its first cell, and no other place is written
+pub record RowWorked (B : Book) (k : ℕ) (diagonal before after : List ℕ) (x : ℕ) : Type 0 where
+  pub long : length after ≡ length before
+  pub cells : (l : ℕ) → k ≤ l → l ≤ B .trains
+      → tableOf (B .trains) after k l
+      ≡ lesser (excessOn (B .running) k l) (keepCost B (tableOf (B .trains) after) k l)
+      (B .period l * B .aboard k l + nth diagonal l)
+  pub first : x ≡ tableOf (B .trains) after k k
+  pub most : x ≤ ceiling
+  pub others : (p : ℕ) → ¬ (InRow (B .trains) k p) → getD after p 0 ≡ getD before p 0
 
 -- what the rows from t down are worked from, the cells on the diagonal of later rows being at most the limit
 pub record RowsGiven (m t : ℕ) (cells slack source period sums : List ℕ) : Type 0 where

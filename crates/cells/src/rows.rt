@@ -6,15 +6,16 @@ ghost use Rattle.line.specs.Cells.{lesser};
 ghost use Rattle.line.specs.Ranges.{latest, everyone, limit};
 ghost use Rattle.cells.specs.Place.{RowsWorked};
 ghost use Rattle.cells.specs.Given.{RunningGiven, PeriodGiven, SumsGiven, bookIn};
-ghost use Rattle.cells.specs.Steps.{Stays, Goes, Wholes, Diagonal, RowRoom, RowFilled, RowsGiven};
+ghost use Rattle.cells.specs.Steps.{Stays, Goes, Wholes, Diagonal, RowRoom, RowFilled};
+ghost use Rattle.cells.specs.Steps.{RowGiven, RowWorked, RowsGiven};
 use crate::place::cell_at;
 use crate::place::place;
 use crate::sums::leaving;
+use crate::sums::wholes;
 use crate::times::arrives;
 use crate::times::cost;
 use crate::times::excess_at;
 use crate::times::period_at;
-use crate::sums::wholes;
 use rail::Train;
 
 // The excess at each station of a run, and what keep costs there but for the cell after it.
@@ -114,7 +115,36 @@ fn diagonal_after(cells: &[u64], m: u32, last: Train) -> [u64; 64]
     diagonal
 }
 
-// The rows of `last` and of the trains before it, each a part of the cells of its own.
+// One row, a part of the cells of its own; its first cell.
+fn work_row(
+    cells: &mut [u64],
+    m: u32,
+    first: Train,
+    slack: &[u32],
+    source: &[u32],
+    period: &[u32],
+    sums: &[u32],
+    whole: &[u64],
+    diagonal: &[u64],
+) -> u64
+    requires { ⌜ RowGiven m (first .0) (now cells) (now slack) (now source) (now period) (now sums)
+        (now whole) (now diagonal) ⌝ }
+    ensures { λ r. ⌜ RowWorked
+        (bookIn m (now (slack .entry)) (now (source .entry)) (now (period .entry))
+        (now (sums .entry)))
+        (first .0) (now (diagonal .entry)) (now (cells .entry)) (now (cells .exit)) r ⌝ }
+{
+    let stay = stay_along(first, m, slack, source, sums);
+    let excess = stay.excess;
+    let keep = stay.keep;
+    let go = go_along(first, m, period, sums, whole);
+    let a = place(m, first, first.leaves());
+    let b = a + (m + 1 - first.0) as usize;
+    fill_row(&mut cells[a..b], first, &excess, &keep, &go, diagonal);
+    cells[a]
+}
+
+// The rows of `last` and of the trains before it, from the later rows as they stand.
 pub fn work_rows(
     cells: &mut [u64],
     m: u32,
@@ -136,15 +166,18 @@ pub fn work_rows(
     let mut i = last.0;
     while 0 < i {
         let train = Train(i);
-        let stay = stay_along(train, m, slack, source, sums);
-        let excess = stay.excess;
-        let keep = stay.keep;
-        let go = go_along(train, m, period, sums, &whole);
-        let a = place(m, train, train.leaves());
-        let b = a + (m + 1 - i) as usize;
-        fill_row(&mut cells[a..b], train, &excess, &keep, &go, &diagonal);
-        let k = train.index();
-        diagonal[k] = cells[a];
+        let cell = work_row(
+            cells,
+            m,
+            train,
+            slack,
+            source,
+            period,
+            sums,
+            &whole,
+            &diagonal,
+        );
+        diagonal[train.index()] = cell;
         i -= 1;
     }
 }

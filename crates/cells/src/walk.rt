@@ -139,7 +139,17 @@ pub fn follow(
     let mut i = 2;
     while i <= m {
         let train = Train(i);
-        let step = decide_at(Train(first), train, late, cells, m, slack, source, period, sums);
+        let step = decide_at(
+            Train(first),
+            train,
+            late,
+            cells,
+            m,
+            slack,
+            source,
+            period,
+            sums,
+        );
         let k = train.index();
         first = step.first;
         late = step.late;

@@ -1,99 +1,108 @@
+-- `rows::fill_row` meets its contract. Invariant: the cells from j on are filled. Measure: j.
+-- Assumes nothing.
+use borrow.Author.Needs.{needs}
+use mathlib.Core.Path.{refl}
+use Prim.Native.Nat.{_+_, _-_, _≤_, _<_}
+use native.Mathlib.Omega.{arith}
+use lib.ListN.{length, getD}
+use Rattle.line.specs.Ranges.{limit}
+use Rattle.cells.specs.Steps.{ceiling}
+use Rattle.cells.proofs.Filling.{FilledFrom, filled-start, filled-back, filled-end, room-at}
 use Rattle.cells.proofs.rows.fill_row.Statement.{statement}
 use Rattle.cells.proofs.rows.fill_row.Tie as tie
-use Rattle.cells.proofs.rows.fill_row.Reads as reads
-use Rattle.cells.proofs.rows.fill_row.Lts as lts
-use Rattle.cells.proofs.rows.lesser.Reads as lesser-reads
-use Rattle.rail.proofs.Train.index.Reads as index-reads
 
 abbrev Inv-loop : tie.InvT-loop
-Inv-loop row₀ excess keep go diagonal start next₀ j₀ row next j = ?
+Inv-loop row₀ excess keep go diagonal start next₀ j₀ row next j =
+    FilledFrom start (length row₀) excess keep go diagonal row next j
 
 abbrev μ-loop : tie.MeasureT-loop
-μ-loop row₀ excess keep go diagonal start next₀ j₀ row next j = ?
+μ-loop row₀ excess keep go diagonal start next₀ j₀ row next j = j
 
--- src/rows.rt:98:9
 index-requires : tie.Need-index-requires Inv-loop μ-loop
-index-requires c κs = ?
+index-requires c κs = search needs
 
--- src/rows.rt:101:5
 loop-holds : tie.Need-loop-holds Inv-loop μ-loop
-loop-holds c = ?
+loop-holds c = filled-start _ _ _ _ _ _ _ refl
 
--- src/rows.rt:102:9
 sub-j : tie.Need-sub-j Inv-loop μ-loop
-sub-j c = ?
+sub-j c = search needs
 
--- src/rows.rt:103:17
+-- what this turn reads, which is small
+spot : (c : tie.In-loop Inv-loop μ-loop) →
+    let start = c .before .before .before .before .before .before .before .before .args in
+    let k = c .before .before .index .result + (c .before .loop .j - 1) in
+    (k < 64) × (getD (start .keep .now) k 0 ≤ limit) × (getD (start .go .now) k 0 ≤ limit)
+    × (getD (start .diagonal .now) k 0 ≤ ceiling)
+spot c =
+    let start = c .before .before .before .before .before .before .before .before in
+    room-at _ _ _ _ _ _ (start .pre) _ (c .before .before .index .ensures) (c .before .loop .j - 1)
+    (omega (arith, c .before .loop .inv .most, c .loop-test .taken))
+
+size : (c : tie.In-loop Inv-loop μ-loop) →
+    length (c .before .before .before .before .before .before .before .before .args .row .now) ≤ 64
+size c =
+    let room = c .before .before .before .before .before .before .before .before .pre in
+    omega (arith, room .first, room .last)
+
 add-k : tie.Need-add-k Inv-loop μ-loop
-add-k c = ?
+add-k c = omega (arith, spot c .0)
 
--- src/rows.rt:104:23
 mul-lesser : tie.Need-mul-lesser Inv-loop μ-loop
-mul-lesser c = ?
+mul-lesser c = search needs
 
--- src/rows.rt:104:23
 shared-slice-read-lesser : tie.Need-shared-slice-read-lesser Inv-loop μ-loop
-shared-slice-read-lesser c = ?
+shared-slice-read-lesser c = search needs
 
--- src/rows.rt:104:34
 mul-lesser-2 : tie.Need-mul-lesser-2 Inv-loop μ-loop
-mul-lesser-2 c = ?
+mul-lesser-2 c = search needs
 
--- src/rows.rt:104:34
 shared-slice-read-lesser-2 : tie.Need-shared-slice-read-lesser-2 Inv-loop μ-loop
-shared-slice-read-lesser-2 c = ?
+shared-slice-read-lesser-2 c = search needs
 
--- src/rows.rt:104:34
 add-lesser : tie.Need-add-lesser Inv-loop μ-loop
-add-lesser c = ?
+add-lesser c = omega (arith, spot (c .before .before), c .before .before .before .loop .inv .small, size (c .before .before))
 
--- src/rows.rt:104:50
 mul-lesser-3 : tie.Need-mul-lesser-3 Inv-loop μ-loop
-mul-lesser-3 c = ?
+mul-lesser-3 c = search needs
 
--- src/rows.rt:104:50
 shared-slice-read-lesser-3 : tie.Need-shared-slice-read-lesser-3 Inv-loop μ-loop
-shared-slice-read-lesser-3 c = ?
+shared-slice-read-lesser-3 c = search needs
 
--- src/rows.rt:104:58
 mul-lesser-4 : tie.Need-mul-lesser-4 Inv-loop μ-loop
-mul-lesser-4 c = ?
+mul-lesser-4 c = search needs
 
--- src/rows.rt:104:58
 shared-slice-read-lesser-4 : tie.Need-shared-slice-read-lesser-4 Inv-loop μ-loop
-shared-slice-read-lesser-4 c = ?
+shared-slice-read-lesser-4 c = search needs
 
--- src/rows.rt:104:50
 add-lesser-2 : tie.Need-add-lesser-2 Inv-loop μ-loop
-add-lesser-2 c = ?
+add-lesser-2 c = omega (arith, spot (c .before .before .before .before))
 
--- src/rows.rt:104:9
 lesser-requires : tie.Need-lesser-requires Inv-loop μ-loop
-lesser-requires c κs = ?
+lesser-requires c κs = search needs
 
--- src/rows.rt:105:9
 mul-row : tie.Need-mul-row Inv-loop μ-loop
-mul-row c = ?
+mul-row c = search needs
 
--- src/rows.rt:105:9
 slice-write-row : tie.Need-slice-write-row Inv-loop μ-loop
-slice-write-row c = ?
+slice-write-row c = search needs
 
--- src/rows.rt:101:5
 loop-less : tie.Need-loop-less Inv-loop μ-loop
-loop-less c = ?
+loop-less c = search needs
 
--- src/rows.rt:101:5
 loop-again : tie.Need-loop-again Inv-loop μ-loop
-loop-again c = ?
+loop-again c =
+    let turn = c .before .before .before .before .before in
+    filled-back _ _ _ _ _ _ _ _ _ _ (turn .before .loop .inv) (turn .loop-test .taken) (c .lesser .ensures .0)
+    (c .lesser .ensures .1) (spot turn .1)
 
--- src/rows.rt:85:1
 same-length : tie.Need-same-length Inv-loop μ-loop
-same-length c = ?
+same-length c = c .before .loop .inv .long
 
--- src/rows.rt:85:1
 returns : tie.Need-returns Inv-loop μ-loop
-returns c = ?
+returns c =
+    let start = c .before .before .before .before .before .before .before .before in
+    filled-end _ _ _ _ _ _ _ _ _ _ _ (start .pre .first) (c .before .before .index .ensures) refl
+    (omega (arith, start .pre .first, start .pre .last)) (c .before .loop .inv) (omega arith)
 
 pub fill-row-spec : {M : Type 1} → statement M
 fill-row-spec =

@@ -52,9 +52,10 @@ turn c =
     let start = c .before .before .before .before .before .before .before .before in
     let at-loop = c .before .before .before .before .loop in
     let taken = c .before .before .if1 .taken in
-    let e = ap (λ (n : ℕ). at-loop .sum + n) (c .leaving .ensures .0) in
-    (more-le _ _ _ _ (start .pre .3) (start .pre .0) _ _ _ (at-loop .inv) taken _ _ e (whole-here c),
-    whole-le _ _ _ _ (start .pre .3) (start .pre .0) _ _ _ (at-loop .inv) taken _ _ e (whole-here c))
+    let e = ap (λ (n : ℕ). at-loop .sum + n) (c .leaving .ensures .0) in (
+      more-le _ _ _ _ (start .pre .3) (start .pre .0) _ _ _ (at-loop .inv) taken _ _ e (whole-here c),
+      whole-le _ _ _ _ (start .pre .3) (start .pre .0) _ _ _ (at-loop .inv) taken _ _ e (whole-here c),
+    )
 
 add-sum : tie.Need-add-sum Inv-loop μ-loop
 add-sum c = omega (arith, turn c .0)

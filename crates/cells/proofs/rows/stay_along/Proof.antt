@@ -44,9 +44,12 @@ arrives-requires c κs =
     let at-loop = c .before .before .before .loop in
     let S = at-loop .inv in
     let taken = c .before .before .loop-test .taken in
-    let pos : 1 ≤ at-loop .i = omega (arith, S .from, start .0) in
-    (pos, omega (arith, start .2 .trains, start .2 .long-source),
-    omega (arith, S .small, excess-here c), start .2 .most _ pos taken)
+    let pos : 1 ≤ at-loop .i = omega (arith, S .from, start .0) in (
+      pos,
+      omega (arith, start .2 .trains, start .2 .long-source),
+      omega (arith, S .small, excess-here c),
+      start .2 .most _ pos taken,
+    )
 
 arrived : (c : tie.After-arrives Inv-loop μ-loop) →
     let start = c .before .before .before .before .before .before .before .before .args in
@@ -57,9 +60,10 @@ arrived c =
     let start = c .before .before .before .before .before .before .before .before in
     let at-loop = c .before .before .before .before .loop in
     let taken = c .before .before .before .loop-test .taken in
-    let e = excess-here (c .before) in
-    (arrives-on _ _ _ _ _ (start .pre .2) (start .pre .0) _ _ _ _ (at-loop .inv) taken _ _ e (c .arrives .ensures),
-    arrives-le _ _ _ _ _ (start .pre .2) (start .pre .0) _ _ _ _ (at-loop .inv) taken _ _ e (c .arrives .ensures))
+    let e = excess-here (c .before) in (
+      arrives-on _ _ _ _ _ (start .pre .2) (start .pre .0) _ _ _ _ (at-loop .inv) taken _ _ e (c .arrives .ensures),
+      arrives-le _ _ _ _ _ (start .pre .2) (start .pre .0) _ _ _ _ (at-loop .inv) taken _ _ e (c .arrives .ensures),
+    )
 
 index-requires : tie.Need-index-requires Inv-loop μ-loop
 index-requires c κs = search needs

@@ -34,9 +34,10 @@ counted c =
     let m = start .args .m in
     let sums = start .args .sums .now in
     let k = start .args .first .0 in
-    let inside : k ≤ at-loop .t = omega (arith, start .pre .2) in
-    (omega (arith, c .leaving .ensures .0, at-loop .inv .2, boarded-first m sums k (at-loop .t) (at-loop .inv .1)),
-    boarded-le m sums (start .pre .0) k (at-loop .t) (start .pre .1) inside (at-loop .inv .1))
+    let inside : k ≤ at-loop .t = omega (arith, start .pre .2) in (
+      omega (arith, c .leaving .ensures .0, at-loop .inv .2, boarded-first m sums k (at-loop .t) (at-loop .inv .1)),
+      boarded-le m sums (start .pre .0) k (at-loop .t) (start .pre .1) inside (at-loop .inv .1),
+    )
 
 add-sum : tie.Need-add-sum Inv-loop μ-loop
 add-sum c = omega (arith, counted c)

@@ -25,9 +25,10 @@ returns : tie.Need-returns
 unfolding pairIn
 returns c =
     let start = c .before .before .before in
-    let field = c .before .field-of-pair in
-    (ap (λ (f : ℕ). getD (start .args .passengers .now) (f - 1) 0) (field .ensures .0),
-    start .pre .0 .most (field .result) (field .ensures .1) (field .ensures .2))
+    let field = c .before .field-of-pair in (
+      ap (λ (f : ℕ). getD (start .args .passengers .now) (f - 1) 0) (field .ensures .0),
+      start .pre .0 .most (field .result) (field .ensures .1) (field .ensures .2),
+    )
 
 pub pair-spec : {M : Type 1} → statement M
 pair-spec =

@@ -24,12 +24,14 @@ loop-holds c = column-start _ _ _ _
 pair-requires : tie.Need-pair-requires Inv-loop μ-loop
 pair-requires c κs =
     let start = c .before .before .before .before .before .pre in
-    let C = c .before .loop .inv in
-    (start .0, record {
-      least = c .loop-test .taken;
-      apart = omega (arith, C .most, c .before .before .reaches .ensures);
-      most = omega (arith, start .3, c .before .before .reaches .ensures);
-    })
+    let C = c .before .loop .inv in (
+      start .0,
+      record {
+        least = c .loop-test .taken;
+        apart = omega (arith, C .most, c .before .before .reaches .ensures);
+        most = omega (arith, start .3, c .before .before .reaches .ensures);
+      },
+    )
 
 room : (c : tie.In-loop Inv-loop μ-loop) → c .before .before .before .before .before .args .train .0 ≤ 64
 room c = let start = c .before .before .before .before .before .pre in omega (arith, start .3, start .0 .trains)
@@ -48,8 +50,12 @@ mul-sums c = search needs
 
 slice-write-sums : tie.Need-slice-write-sums Inv-loop μ-loop
 slice-write-sums c =
-    omega (arith, c .square .ensures .1, c .before .before .before .loop .inv .long,
-    c .before .before .before .before .before .before .before .pre .1)
+    omega (
+      arith,
+      c .square .ensures .1,
+      c .before .before .before .loop .inv .long,
+      c .before .before .before .before .before .before .before .pre .1,
+    )
 
 sub-k : tie.Need-sub-k Inv-loop μ-loop
 sub-k c = search needs

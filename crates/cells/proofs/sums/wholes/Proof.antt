@@ -46,11 +46,14 @@ loop-less c = search needs
 loop-again : tie.Need-loop-again Inv-loop μ-loop
 loop-again c =
     let at-loop = c .before .before .before .loop in
-    let inv = at-loop .inv in
-    (omega arith, omega arith, simp length-set (inv .2),
-    held-set (at-loop .whole) (c .index .result) (at-loop .i) _ (c .index .ensures) (inv .0) _ 1 (at-loop .i + 1)
-    (omega arith) (omega (arith, within c, inv .2)) (c .before .boarded .ensures)
-    (λ l a b n. inv .3 l a (omega arith)))
+    let inv = at-loop .inv in (
+      omega arith,
+      omega arith,
+      simp length-set (inv .2),
+      held-set (at-loop .whole) (c .index .result) (at-loop .i) _ (c .index .ensures) (inv .0) _ 1 (at-loop .i + 1)
+          (omega arith) (omega (arith, within c, inv .2)) (c .before .boarded .ensures)
+          (λ l a b n. inv .3 l a (omega arith)),
+    )
 
 returns : tie.Need-returns Inv-loop μ-loop
 returns c =

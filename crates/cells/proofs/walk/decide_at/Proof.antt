@@ -1,49 +1,73 @@
+-- `walk::decide_at` meets its contract: the excess and the costs are those of the run, so the byte is the choice.
+-- Assumes nothing.
+use borrow.Author.Needs.{needs}
+use mathlib.Core.Path.{_≡_, ap, _∙_}
+use Prim.Native.Nat.{ℕ, _-_}
+use native.Mathlib.Omega.{arith}
+use Rattle.lists.specs.Run.{nth}
+use Rattle.cells.proofs.Walks.{step-late, stepped-keep, stepped-go}
 use Rattle.cells.proofs.walk.decide_at.Statement.{statement}
 use Rattle.cells.proofs.walk.decide_at.Tie as tie
-use Rattle.cells.proofs.walk.decide_at.Reads as reads
-use Rattle.cells.proofs.walk.decide_at.Lts as lts
-use Rattle.cells.proofs.times.arrives.Reads as arrives-reads
-use Rattle.cells.proofs.times.excess_at.Reads as excess-at-reads
-use Rattle.cells.proofs.walk.go_cost.Reads as go-cost-reads
-use Rattle.cells.proofs.walk.keep_cost.Reads as keep-cost-reads
-use Rattle.cells.proofs.walk.prefer.Reads as prefer-reads
-use Rattle.rail.proofs.Train.leaves.Reads as leaves-reads
 
--- src/walk.rt:88:35
 leaves-requires : tie.Need-leaves-requires
-leaves-requires c κs = ?
+leaves-requires c κs = search needs
 
--- src/walk.rt:88:9
 excess-at-requires : tie.Need-excess-at-requires
-excess-at-requires c κs = ?
+excess-at-requires c κs = search needs
 
--- src/walk.rt:89:9
+-- the code's excess, at the station that the train leaves
+excess : (c : tie.After-excess-at) →
+    let start = c .before .before .before .before .before .before .before .args in
+    c .excess-at .result ≡ start .late - nth (start .slack .now) (start .train .0)
+excess c =
+    let start = c .before .before .before .before .before .before .before .args in
+    c .excess-at .ensures ∙ ap (λ (s : ℕ). start .late - nth (start .slack .now) s) (c .before .leaves .ensures)
+
+-- an excess is no later than a train, and a source delay at most 1,440
 arrives-requires : tie.Need-arrives-requires
-arrives-requires c κs = ?
+arrives-requires c κs =
+    let start = c .before .before .before .before .before .before .before in
+    let most = start .pre .given .run .most (start .args .train .0) (omega arith) (omega arith) in
+    omega (arith, excess c, step-late _ _ _ _ _ _ _ _ _ (start .pre))
 
--- src/walk.rt:90:9
+-- kept, the train is no later than any can be
 keep-cost-requires : tie.Need-keep-cost-requires
-keep-cost-requires c κs = ?
+keep-cost-requires c κs =
+    let start = c .before .before .before .before .before .before .before .before in
+    let late = step-late _ _ _ _ _ _ _ _ _ (start .pre) in
+    let here = excess (c .before) in
+    search needs
 
--- src/walk.rt:91:9
 go-cost-requires : tie.Need-go-cost-requires
-go-cost-requires c κs = ?
+go-cost-requires c κs = search needs
 
--- src/walk.rt:92:9
 prefer-requires : tie.Need-prefer-requires
-prefer-requires c κs = ?
+prefer-requires c κs = search needs
 
--- src/walk.rt:94:9
+-- the byte is keep: the run goes on
 returns : tie.Need-returns
-returns c = ?
+returns c =
+    let start = c .before .before .before .before .before .before .before .before .before .before .before .before in
+    stepped-keep _ _ _ _ _ _ _ _ _ (start .pre) _ _ _ _ (excess (c .before .before .before .before .before))
+    (c .before .before .before .before .arrives .ensures) (c .before .before .before .keep-cost .ensures)
+    (c .before .before .go-cost .ensures) _ (c .before .prefer .ensures) (c .if1 .taken)
 
--- src/walk.rt:103:15
+-- a source delay is at most 1,440
 arrives-requires-2 : tie.Need-arrives-requires-2
-arrives-requires-2 c κs = ?
+arrives-requires-2 c κs =
+    let start = c .before .before .before .before .before .before .before .before .before .before .before .before in
+    let most = start .pre .given .run .most (start .args .train .0) (omega arith) (omega arith) in
+    search needs
 
--- src/walk.rt:70:1
+-- the byte is go: the train begins a run
 returns-2 : tie.Need-returns-2
-returns-2 c = ?
+returns-2 c =
+    let chosen = c .before .before in
+    let start = chosen .before .before .before .before .before .before .before .before .before .before .before in
+    let step = stepped-go _ _ _ _ _ _ _ _ _ (start .pre) _ _ _ _ (excess (chosen .before .before .before .before))
+    (chosen .before .before .before .arrives .ensures) (chosen .before .before .keep-cost .ensures)
+    (chosen .before .go-cost .ensures) _ (chosen .prefer .ensures) (c .before .if1 .left) in
+    record { byte = step .byte; first = step .first; late = c .arrives2 .ensures ∙ step .late }
 
 pub decide-at-spec : {M : Type 1} → statement M
 decide-at-spec =

@@ -1,36 +1,41 @@
+-- `walk::keep_cost` meets its contract: a cost and a cell, each at most the limit, can be added.
+-- Assumes nothing.
 use borrow.Author.Needs.{needs}
+use mathlib.Core.Path.{ap, ap₂, _∙_}
+use Prim.Native.Nat.{ℕ, _+_, _*_}
+use native.Mathlib.Omega.{arith}
+use Rattle.cells.specs.Place.{tableOf}
+use Rattle.cells.proofs.Walks.{cell-le}
 use Rattle.cells.proofs.walk.keep_cost.Statement.{statement}
 use Rattle.cells.proofs.walk.keep_cost.Tie as tie
-use Rattle.cells.proofs.walk.keep_cost.Reads as reads
-use Rattle.cells.proofs.walk.keep_cost.Lts as lts
-use Rattle.cells.proofs.place.cell_at.Reads as cell-at-reads
-use Rattle.cells.proofs.sums.leaving.Reads as leaving-reads
-use Rattle.cells.proofs.times.cost.Reads as cost-reads
-use Rattle.rail.proofs.Train.reaches.Reads as reaches-reads
 
--- src/walk.rt:35:10
 leaving-requires : tie.Need-leaving-requires
 leaving-requires c κs = search needs
 
--- src/walk.rt:35:5
 cost-requires : tie.Need-cost-requires
 cost-requires c κs = search needs
 
--- src/walk.rt:35:75
 reaches-requires : tie.Need-reaches-requires
 reaches-requires c κs = search needs
 
--- src/walk.rt:35:50
 cell-at-requires : tie.Need-cell-at-requires
 cell-at-requires c κs = search needs
 
--- src/walk.rt:35:5
+-- the cell is at most the limit, as the cost is
 add-result : tie.Need-add-result
-add-result c = ?
+add-result c =
+    let start = c .before .before .before .before .before .before in
+    let cell = cell-le (start .args .m) (start .args .cells .now) (start .pre .2) in
+    omega (arith, cell (start .args .first .0) (c .before .reaches .result .0) (omega arith) (omega arith))
 
--- src/walk.rt:29:1
+-- summand by summand
 returns : tie.Need-returns
-returns c = ?
+returns c =
+    let costed = c .before .before in
+    let start = costed .before .before .before .before .args in
+    ap₂ _+_
+    (costed .cost .ensures .0 ∙ ap (λ (x : ℕ). x * start .late) (costed .before .leaving .ensures .0))
+    (c .cell-at .ensures ∙ ap (tableOf (start .m) (start .cells .now) (start .first .0)) (c .before .reaches .ensures))
 
 pub keep-cost-spec : {M : Type 1} → statement M
 keep-cost-spec =

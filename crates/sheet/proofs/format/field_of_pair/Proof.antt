@@ -32,10 +32,11 @@ before-fields c =
     let m = c .before .args .m in
     let k = c .index .result in
     let pair = c .before .pre .1 in
-    let inside : k ≤ m = omega (arith, c .index .ensures, pair .apart, pair .most) in
-    (fields-closed m k inside,
-    omega (arith, fields-mono m k m inside, fields-all m, pairs-le m (c .before .pre .0)),
-    inside)
+    let inside : k ≤ m = omega (arith, c .index .ensures, pair .apart, pair .most) in (
+      fields-closed m k inside,
+      omega (arith, fields-mono m k m inside, fields-all m, pairs-le m (c .before .pre .0)),
+      inside,
+    )
 
 mul-result-2 : tie.Need-mul-result-2
 mul-result-2 c = omega (arith, before-fields c)
@@ -59,9 +60,11 @@ returns c =
     let k = at-index .index .result in
     let i = start .args .from .0 in
     let j = start .args .to .0 in
-    let e = field-closed m k i j (at-index .index .ensures) (omega (arith, before-fields at-index .2)) in
-    (e, le-trans (pair-has-field m i j (start .pre .1) .0) (le-of-eq (sym e)),
-    le-trans (le-of-eq e) (pair-has-field m i j (start .pre .1) .1))
+    let e = field-closed m k i j (at-index .index .ensures) (omega (arith, before-fields at-index .2)) in (
+      e,
+      le-trans (pair-has-field m i j (start .pre .1) .0) (le-of-eq (sym e)),
+      le-trans (le-of-eq e) (pair-has-field m i j (start .pre .1) .1),
+    )
 
 pub field-of-pair-spec : {M : Type 1} → statement M
 field-of-pair-spec =
