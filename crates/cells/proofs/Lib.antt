@@ -1,6 +1,7 @@
 pub mod Places
 pub mod Held
 pub mod Leavers
+pub mod Bounded
 pub mod Summing
 pub mod Runs
 pub mod Filling
@@ -8,3 +9,4 @@ pub mod Working
 pub mod Costs
 pub mod Written
 pub mod Walks
+pub mod Shown

@@ -36,6 +36,12 @@ module _ (m k l : ℕ) (first : 1 ≤ k) (run : k ≤ l) (last : l ≤ m) (most 
   unfolding place square
   place-apart i a = omega arith
 
+-- two cells that share a place are one
+pub place-one : (m k l j i : ℕ) → m ≤ 64 → 1 ≤ k → k ≤ l → l ≤ m → 1 ≤ j → j ≤ i → i ≤ m → place m k l ≡ place m j i
+    → (k ≡ j) × (l ≡ i)
+unfolding place square
+place-one m k l j i few a b c u v w e = (omega arith, omega arith)
+
 -- a whole row is lent
 pub row-fits : (m k : ℕ) → 1 ≤ k → k ≤ m → m ≤ 64 → place m k k + (m + 1 - k) ≤ 4096
 unfolding place square

@@ -11,18 +11,14 @@ use lib.ListN.{length, set, length-set}
 use Rattle.lists.specs.Run.{nth}
 use Rattle.line.specs.Line.{Running}
 use Rattle.line.specs.Cells.{excessOn, arrivalOn}
-use Rattle.line.specs.Ranges.{latest, everyone, RunningInRange}
+use Rattle.line.specs.Ranges.{latest, everyone}
 use Rattle.line.proofs.Along.{excess-on-start, excess-on-next, arrival-on-departed}
 use Rattle.line.proofs.Bounds.{arrival-on-le}
 use Rattle.cells.specs.Given.{leavingIn, boardedIn, aboardIn, runningIn, RunningGiven, SumsGiven}
 use Rattle.cells.specs.Steps.{Stays, Goes}
+use Rattle.cells.proofs.Bounded.{running-in-range}
 use Rattle.cells.proofs.Held.{Held, held-set, nth-set-other}
 use Rattle.cells.proofs.Leavers.{boarded-none, boarded-first, boarded-le, boarded-aboard}
-
-pub running-in-range : (m : ℕ) (slack source : List ℕ) → RunningGiven m slack source
-    → RunningInRange m (runningIn slack source)
-running-in-range m slack source given =
-    record { trains = given .trains; arrive = λ i x a b. omega (arith, given .most i a b) }
 
 -- ---- upward
 

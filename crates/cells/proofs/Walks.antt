@@ -18,29 +18,15 @@ use Rattle.lists.proofs.Fill.{filled-none, filled-next, filled-padded}
 use Rattle.line.specs.Line.{Running}
 use Rattle.line.specs.Policy.{Decision, Keep, Go, arrival}
 use Rattle.line.specs.Cells.{Table, Book, excessOn, arrivalOn, keepCost, goCost, prefer, choice, under, begins, decide}
-use Rattle.line.specs.Ranges.{latest, limit, RunningInRange}
+use Rattle.line.specs.Ranges.{latest}
 use Rattle.line.proofs.Along.{excess-on-start, excess-on-next, arrival-on-departed}
 use Rattle.line.proofs.Bounds.{arrival-on-le}
 use Rattle.line.proofs.Decided.{begins-next, begins-first, begins-le, policy-by-next, decided-arrives}
 use Rattle.cells.specs.Place.{tableOf}
-use Rattle.cells.specs.Given.{leavingIn, aboardIn, runningIn, bookIn, RunningGiven, CellsInRange}
+use Rattle.cells.specs.Given.{leavingIn, aboardIn, runningIn, bookIn}
 use Rattle.cells.specs.Shown.{byteOf, shown}
 use Rattle.cells.specs.Steps.{StepGiven, Stepped, WalkGiven}
-use Rattle.cells.proofs.Places.{table-past}
-
--- ---- how large
-
--- a cell in use, or 0 past the last column
-pub cell-le : (m : ℕ) (cells : List ℕ) → CellsInRange m cells → (k l : ℕ) → 1 ≤ k → k ≤ l → tableOf m cells k l ≤ limit
-cell-le m cells range k l a b = elim (lt-or-ge m l) [
-  | inl past ↦ omega (arith, table-past m cells k l past)
-  | inr h ↦ range k l a b h
-]
-
-pub running-range : (m : ℕ) (slack source : List ℕ) → RunningGiven m slack source
-    → RunningInRange m (runningIn slack source)
-running-range m slack source given =
-    record { trains = given .trains; arrive = λ i x a b. omega (arith, given .most i a b) }
+use Rattle.cells.proofs.Bounded.{running-in-range}
 
 -- ---- one station's step
 
@@ -78,7 +64,7 @@ module _ (m k l x : ℕ) (cells slack source period sums : List ℕ)
   pub step-late : x - nth slack l + nth source l ≤ latest
   step-late =
       le-trans (le-of-eq step-arrives)
-      (arrival-on-le m R (running-range m slack source (given .given .run)) k l (given .last))
+      (arrival-on-le m R (running-in-range m slack source (given .given .run)) k l (given .last))
 
   -- the code's two costs and its excess make the choice by the cells
   module _ (e a keep go : ℕ) (excess : e ≡ x - nth slack l) (arrives : a ≡ e + nth source l)
@@ -229,4 +215,4 @@ module _ (m : ℕ) (cells slack source period sums : List ℕ) (given : WalkGive
   pub walk-late : (k l d f x : ℕ) → l ≤ m → Stepped book (tableOf m cells) k l d f x → x ≤ latest
   walk-late k l d f x last s =
       le-trans (le-of-eq (s .late))
-      (arrival-on-le m (runningIn slack source) (running-range m slack source (given .given .run)) _ l last)
+      (arrival-on-le m (runningIn slack source) (running-in-range m slack source (given .given .run)) _ l last)

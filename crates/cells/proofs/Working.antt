@@ -24,7 +24,7 @@ use Rattle.cells.specs.Steps.{Stays, Goes, Diagonal, ceiling, RowRoom, R
 use Rattle.cells.proofs.Places.{place-row, place-after, row-fits, table-in, table-past}
 use Rattle.cells.proofs.Held.{nth-set, nth-set-other}
 use Rattle.cells.proofs.Leavers.{leaving-le, aboard-le}
-use Rattle.cells.proofs.Runs.{running-in-range}
+use Rattle.cells.proofs.Bounded.{running-in-range}
 
 -- ---- a row put back
 

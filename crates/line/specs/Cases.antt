@@ -28,15 +28,15 @@ abbrev lineIn : ℕ → ℕ → List ℕ → List ℕ → (ℕ → ℕ) → List
 lineIn m T departures driving delay passengers =
     lineFrom m T (nth departures) (nth driving) delay (λ i j. tableFrom passengers i (j - 1))
 
-abbrev lineA : Line
+abbrev pub lineA : Line
 lineA = lineIn 1 10 (10 ∷ []) (15 ∷ []) (nth (7 ∷ [])) ((3 ∷ []) ∷ [])
 
-abbrev lineB : ℕ → (ℕ → ℕ) → Line
+abbrev pub lineB : ℕ → (ℕ → ℕ) → Line
 lineB T delay =
     lineIn 3 T (10 ∷ 30 ∷ 55 ∷ []) (15 ∷ 20 ∷ 12 ∷ []) delay
     ((4 ∷ 6 ∷ 5 ∷ []) ∷ (10 ∷ 2 ∷ []) ∷ (20 ∷ []) ∷ [])
 
-abbrev delaysB : ℕ → ℕ
+abbrev pub delaysB : ℕ → ℕ
 delaysB = nth (9 ∷ 3 ∷ 0 ∷ [])
 
 -- train t reported at y

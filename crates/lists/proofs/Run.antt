@@ -85,3 +85,15 @@ padded-ext size n f l e g h =
     (λ (c : k < n). g k c m ∙ sym (padded-at size n f k c m))
     (λ (c : n ≤ k). h k c ∙ sym (padded-past size n f k c))
     (lt-or-ge k n))
+
+-- equal where f and g are, on 1 to n
+pub padded-same : (size n : ℕ) (f g : ℕ → ℕ) → ((i : ℕ) → 1 ≤ i → i ≤ n → f i ≡ g i)
+    → padded size n f ≡ padded size n g
+unfolding padded listed
+padded-same size n f g same =
+    run-same _ _ _ _ 1 size
+    (λ i a b.
+    ⊎-elim
+    (λ (u : n < i). below-yes _ _ u ∙ sym (below-yes _ _ u))
+    (λ (u : i ≤ n). below-no _ _ u ∙ same i a u ∙ sym (below-no _ _ u))
+    (lt-or-ge n i))

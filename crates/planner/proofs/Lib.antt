@@ -1,3 +1,10 @@
 pub mod Lines
-pub mod Settling
+pub mod Settles
+pub mod Joining
+pub mod Taken
 pub mod Outcome
+pub mod Refusals
+pub mod Possible
+pub mod Demands
+pub mod Sheets
+pub mod Useless

@@ -5,6 +5,7 @@ use mathlib.Core.Path.{_≡_, ap, sym, subst, _∙_}
 use mathlib.Core.List.{List}
 use mathlib.Core.Logic.{inl, inr}
 use Prim.Native.Nat.{ℕ, _≤_}
+use Rattle.lists.proofs.Run.{padded-same}
 use Rattle.rail.specs.declared.Refusal.{Refusal}
 use Rattle.rail.specs.declared.Verdict.the-variants.{Fine, Refused}
 use Rattle.rail.specs.Verdict.{numberIn, placeIn}
@@ -16,12 +17,12 @@ use Rattle.line.proofs.Plan.{plan-one}
 use Rattle.sheet.specs.Numbers.{numbersOf}
 use Rattle.sheet.proofs.Facts.{accepted-of-fine}
 use Rattle.cells.proofs.Written.{rows-worked-one}
+use Rattle.cells.proofs.Shown.{shown-same}
 use Rattle.planner.specs.LineOf.{lineOf}
 use Rattle.planner.specs.declared.Answer.{Answer}
 use Rattle.planner.specs.declared.Answer.the-variants.{Accepted}
 use Rattle.planner.specs.Plan.{answerNumber, answerPlace, Buffers, planVerdict, Planned, RefusedFor, Plan}
 use Rattle.planner.proofs.Lines.{line-in-range}
-use Rattle.planner.proofs.Settling.{padded-same, shown-same}
 
 -- ---- what plan leaves
 

@@ -1,6 +1,7 @@
 -- What plan returns and what it leaves in the lent buffers. Document 01, "Four operations", and "Numbers of refusal".
 --   answerNumber a, answerPlace a, answerTotal a     what the paper has the answer a carry
 --   Buffers                       the working cells, the decision bytes and the delays, as they are lent or left
+--   RightLengths b                the buffers have the lengths that document 01 states
 --   planVerdict s b               all checks of plan, in their order, for the sheet s and the buffers b
 --   Planned L before after a      an accepted plan of the line L
 --   RefusedFor r before after a   what a refusal leaves
@@ -52,12 +53,20 @@ abbrev pub buffers : List ℕ → List ℕ → List ℕ → Buffers
 buffers c d y = record { cells = c; decisions = d; delays = y }
 
 -- 4,096 working cells, 64 decision bytes, 64 delays
-unfoldable pub buffersVerdict : Buffers → Verdict
-buffersVerdict b =
-    (refuse BufferLength unless length (b .cells) is 4096)
-    andThen (refuse BufferLength unless length (b .decisions) is 64)
-    andThen (refuse BufferLength unless length (b .delays) is 64)
+pub record RightLengths (b : Buffers) : Type 0 where
+  pub cells : length (b .cells) ≡ 4096
+  pub decisions : length (b .decisions) ≡ 64
+  pub delays : length (b .delays) ≡ 64
+
+unfoldable pub lengthsVerdict : ℕ → ℕ → ℕ → Verdict
+lengthsVerdict cells decisions delays =
+    (refuse BufferLength unless cells is 4096)
+    andThen (refuse BufferLength unless decisions is 64)
+    andThen (refuse BufferLength unless delays is 64)
     andThen Fine
+
+abbrev pub buffersVerdict : Buffers → Verdict
+buffersVerdict b = lengthsVerdict (length (b .cells)) (length (b .decisions)) (length (b .delays))
 
 unfoldable pub planVerdict : List ℕ → Buffers → Verdict
 planVerdict s b = buffersVerdict b andThen sheetVerdict s

@@ -1,20 +1,19 @@
 -- What the work on accepted numbers leaves, in a plan and in a report: rows 1 to t worked anew, decisions by comparing
 -- the two choices in the cells, delays by following them, the total cell (1, 1). Document 01, "Four operations".
 -- Assumes nothing.
-use Prim.Native.Nat.{ℕ, _≤_, _<_}
+use Prim.Native.Nat.{ℕ, _+_, _-_, _≤_, _<_}
 use mathlib.Core.Path.{_≡_}
 use mathlib.Core.List.{List}
 use lib.ListN.{length}
-use Rattle.lists.specs.Run.{padded}
+use Rattle.lists.specs.Run.{nth, padded}
 use Rattle.line.specs.Policy.{arrival}
 use Rattle.line.specs.Cells.{Book, decide}
 use Rattle.line.specs.Ranges.{limit}
 use Rattle.cells.specs.Place.{tableOf, RowsWorked}
-use Rattle.cells.specs.Given.{Given}
 use Rattle.cells.specs.Shown.{shown}
 use Rattle.sheet.specs.Numbers.{Lists, numbersIn}
 use Rattle.sheet.specs.Accepted.{Lengths, InRange}
-use Rattle.planner.specs.Plan.{Buffers}
+use Rattle.planner.specs.Plan.{Buffers, RightLengths}
 
 pub record Settled (B : Book) (t : ℕ) (before after : Buffers) (n : ℕ) : Type 0 where
   pub cells : RowsWorked B t (before .cells) (after .cells)
@@ -23,15 +22,25 @@ pub record Settled (B : Book) (t : ℕ) (before after : Buffers) (n : ℕ) : Typ
       ≡ padded 64 (B .trains) (arrival (B .running) (decide B (tableOf (B .trains) (after .cells))))
   pub total : n ≡ tableOf (B .trains) (after .cells) 1 1
 
--- buffers of the right lengths, and every cell in use of the rows after t at most the limit
-pub record Room (m t : ℕ) (b : Buffers) : Type 0 where
+-- the rows of trains 1 to t can be worked: every cell in use of the later rows is at most the limit
+pub record Workable (m t : ℕ) (b : Buffers) : Type 0 where
   pub last : t ≤ m
-  pub cells : length (b .cells) ≡ 4096
-  pub decisions : length (b .decisions) ≡ 64
-  pub delays : length (b .delays) ≡ 64
+  pub lengths : RightLengths b
   pub later : (k l : ℕ) → t < k → k ≤ l → l ≤ m → tableOf m (b .cells) k l ≤ limit
 
 -- lists as decode leaves them, their numbers in range
 pub record Sound (m T : ℕ) (L : Lists) : Type 0 where
   pub lengths : Lengths 64 2080 L
   pub range : InRange (numbersIn m T L)
+
+-- the slack at station i can be taken: train i departs when its feeder is planned to arrive or later
+pub record SlackGiven (i : ℕ) (departures driving : List ℕ) : Type 0 where
+  pub least : 2 ≤ i
+  pub room : i ≤ length departures
+  pub feeder : i ≤ length driving
+  pub enough : nth departures (i - 1) + nth driving (i - 1) ≤ nth departures i
+
+-- by station from 2
+pub record Slacks (m : ℕ) (departures driving slack : List ℕ) : Type 0 where
+  pub long : length slack ≡ 64
+  pub held : (i : ℕ) → 2 ≤ i → i ≤ m → nth slack i ≡ nth departures i - nth departures (i - 1) - nth driving (i - 1)

@@ -71,7 +71,7 @@ module _ (r : Refusal) (a b : ℕ) where
 
   -- ---- a number that is to be another
 
-  refused-other : (a ≡ b → ⊥) → Refused r ≡ refuse r unless a is b
+  pub refused-other : (a ≡ b → ⊥) → Refused r ≡ refuse r unless a is b
   unfolding refuse_unless_is_
   refused-other n = sym (same-no _ _ n)
 

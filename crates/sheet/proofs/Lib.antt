@@ -4,4 +4,4 @@ pub mod Facts
 pub mod Meaning
 pub mod Amend
 pub mod Sample
-pub mod WriteOnly
+pub mod Refusals

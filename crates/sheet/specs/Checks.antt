@@ -2,7 +2,7 @@
 --   lengthsVerdict why n k L     refused for why where the lists have other lengths than n, n, n and k
 --   rangesVerdict m T            2 and 3
 --   earliestOf departure driving i     the earliest minute at which train i may leave
---   trainVerdict x i             5, 13, 6, 7 for train i; on a sheet it is never 13 (proofs/WriteOnly)
+--   trainVerdict x i             5, 13, 6, 7 for train i; on a sheet it is never 13 (proofs/Refusals)
 --   passengersVerdict p f        8 for passenger field f
 --   numbersVerdict m x p         train by train, then field by field
 --   headVerdict s                1, 2, 3, then 1 or 4

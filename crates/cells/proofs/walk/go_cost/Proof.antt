@@ -9,7 +9,7 @@ use Rattle.lists.specs.Run.{nth}
 use Rattle.cells.specs.Place.{tableOf}
 use Rattle.cells.specs.Given.{aboardIn}
 use Rattle.cells.proofs.Leavers.{boarded-aboard, aboard-le}
-use Rattle.cells.proofs.Walks.{cell-le}
+use Rattle.cells.proofs.Bounded.{cell-le}
 use Rattle.cells.proofs.walk.go_cost.Statement.{statement}
 use Rattle.cells.proofs.walk.go_cost.Tie as tie
 

@@ -5,7 +5,7 @@ use mathlib.Core.Path.{ap, ap₂, _∙_}
 use Prim.Native.Nat.{ℕ, _+_, _*_}
 use native.Mathlib.Omega.{arith}
 use Rattle.cells.specs.Place.{tableOf}
-use Rattle.cells.proofs.Walks.{cell-le}
+use Rattle.cells.proofs.Bounded.{cell-le}
 use Rattle.cells.proofs.walk.keep_cost.Statement.{statement}
 use Rattle.cells.proofs.walk.keep_cost.Tie as tie
 

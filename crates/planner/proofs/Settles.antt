@@ -2,17 +2,13 @@
 -- The rows are those of document 01, so that what is read off them is the plan and cell (1, 1) is its total.
 -- Assumes nothing.
 use mathlib.Core.Path.{_≡_, ap, sym, _∙_}
-use mathlib.Core.Logic.{inl, inr}
 use mathlib.Core.List.{List}
-use Prim.Native.Nat.{ℕ, _+_, _≤_}
+use Prim.Native.Nat.{ℕ, _≤_}
 use native.Mathlib.Omega.{arith}
-use Rattle.lists.specs.Choice.{ifBelow}
 use Rattle.lists.specs.Run.{padded}
-use Rattle.lists.proofs.Choice.{below-no}
-use Rattle.lists.proofs.Order.{lt-or-ge}
-use Rattle.lists.proofs.Run.{padded-length, padded-at, padded-past, padded-ext}
+use Rattle.lists.proofs.Run.{padded-same}
 use Rattle.line.specs.Line.{Line}
-use Rattle.line.specs.Policy.{Decision, Policy, arrival}
+use Rattle.line.specs.Policy.{Policy, arrival}
 use Rattle.line.specs.Cells.{Book, bookOf, decide}
 use Rattle.line.specs.Alike.{BooksAlike}
 use Rattle.line.proofs.Following.{first-on-time}
@@ -20,28 +16,12 @@ use Rattle.line.proofs.Days.{policies-alike}
 use Rattle.line.proofs.Alike.{decide-alike}
 use Rattle.line.proofs.Worked.{decided-total, decided-is-plan}
 use Rattle.cells.specs.Place.{tableOf}
-use Rattle.cells.specs.Shown.{byteOf, shown}
+use Rattle.cells.specs.Shown.{shown}
 use Rattle.cells.proofs.Written.{rows-worked-alike}
+use Rattle.cells.proofs.Shown.{shown-same}
 use Rattle.planner.specs.declared.Answer.the-variants.{Accepted}
 use Rattle.planner.specs.Plan.{Buffers, Planned}
 use Rattle.planner.specs.Settled.{Settled}
-
--- ---- lists of what is the same on the trains in use
-
-pub padded-same : (size n : ℕ) (f g : ℕ → ℕ) → ((i : ℕ) → 1 ≤ i → i ≤ n → f i ≡ g i) → padded size n f ≡ padded size n g
-padded-same size n f g same =
-    padded-ext size n g (padded size n f) (padded-length size n f)
-    (λ k a b. padded-at size n f k a b ∙ same (k + 1) (omega arith) (omega arith))
-    (λ k a. padded-past size n f k a)
-
-pub shown-same : (m : ℕ) (p q : Policy) → ((i : ℕ) → 2 ≤ i → i ≤ m → p i ≡ q i) → shown m p ≡ shown m q
-unfolding shown
-shown-same m p q same =
-    padded-same 64 m _ _
-    (λ i a b. elim (lt-or-ge 1 i) [
-      | inl u ↦ ap (λ (d : Decision). ifBelow 1 i (byteOf d) 0) (same i u b)
-      | inr u ↦ below-no _ _ u ∙ sym (below-no _ _ u)
-    ])
 
 -- ---- by books alike
 

@@ -1,0 +1,56 @@
+-- `lists::copy_u8` meets its contract. Invariant: the places passed hold those of `from`. Measure: the places left.
+-- Assumes nothing.
+use borrow.Author.Needs.{needs}
+use mathlib.Core.Path.{refl}
+use Prim.Native.Nat.{ℕ, _-_, _≤_}
+use native.Mathlib.Omega.{arith}
+use lib.ListN.{length, getD}
+use Rattle.lists.specs.Filled.{Filled}
+use Rattle.lists.proofs.Fill.{filled-none, filled-next, filled-all}
+use Rattle.lists.proofs.copy_u8.Statement.{statement}
+use Rattle.lists.proofs.copy_u8.Tie as tie
+
+abbrev Inv-loop : tie.InvT-loop
+Inv-loop list₀ from k₀ list k = (k ≤ length list₀) × Filled 0 (λ (j : ℕ). getD from j 0) k list₀ list
+
+abbrev μ-loop : tie.MeasureT-loop
+μ-loop list₀ from k₀ list k = length list₀ - k
+
+loop-holds : tie.Need-loop-holds Inv-loop μ-loop
+loop-holds c = (omega arith, filled-none _ _ _)
+
+shared-slice-read-list : tie.Need-shared-slice-read-list Inv-loop μ-loop
+shared-slice-read-list c = search needs
+
+slice-write-list : tie.Need-slice-write-list Inv-loop μ-loop
+slice-write-list c = search needs
+
+add-k : tie.Need-add-k Inv-loop μ-loop
+add-k c = search needs
+
+loop-less : tie.Need-loop-less Inv-loop μ-loop
+loop-less c = search needs
+
+loop-again : tie.Need-loop-again Inv-loop μ-loop
+loop-again c = (omega arith, filled-next _ _ (c .before .before .loop .inv .1) (omega arith) refl)
+
+same-length : tie.Need-same-length Inv-loop μ-loop
+same-length c = search needs
+
+returns : tie.Need-returns Inv-loop μ-loop
+returns c = filled-all _ _ _ (c .before .loop .inv .1) (omega arith) (omega arith) (λ k l. refl)
+
+pub copy-u8-spec : {M : Type 1} → statement M
+copy-u8-spec =
+    tie.close
+    (tie.spec
+    Inv-loop
+    μ-loop
+    loop-holds
+    shared-slice-read-list
+    slice-write-list
+    add-k
+    loop-less
+    loop-again
+    same-length
+    returns)

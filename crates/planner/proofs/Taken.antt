@@ -1,0 +1,116 @@
+-- From a sheet taken apart to its plan: the columns are sound and hold the sheet's numbers, and what is settled on them
+-- is a plan of the sheet's line. And what a refusal leaves.
+-- Assumes nothing.
+use mathlib.Core.Path.{_≡_, refl, ap, sym, subst, _∙_}
+use mathlib.Core.Bool.{false}
+use mathlib.Core.List.{List}
+use mathlib.Core.Logic.{_⊎_, inl, inr}
+use Prim.Native.Nat.{ℕ, _≤_}
+use native.Mathlib.Omega.{arith}
+use lib.ListN.{length, replicate}
+use Rattle.lists.specs.Choice.{if_then_else_}
+use Rattle.lists.proofs.Choice.{if-no}
+use Rattle.lists.proofs.Run.{padded-length}
+use Rattle.rail.specs.declared.Refusal.{Refusal}
+use Rattle.rail.specs.declared.Verdict.the-variants.{Fine}
+use Rattle.rail.specs.Refusal.{blanksOf}
+use Rattle.line.specs.Line.{lineFrom}
+use Rattle.line.specs.Cells.{bookOf}
+use Rattle.line.proofs.Alike.{books-of-lines}
+use Rattle.sheet.specs.Format.{trainsOf, periodOf, bytesOf}
+use Rattle.sheet.specs.Numbers.{Lists, lists, numbersOf, numbersIn}
+use Rattle.sheet.specs.Checks.{sheetVerdict}
+use Rattle.sheet.specs.Accepted.{AcceptedSheet, SameNumbers}
+use Rattle.sheet.proofs.Facts.{accepted-of-fine}
+use Rattle.sheet.proofs.Meaning.{in-range-same}
+use Rattle.reader.specs.declared.Reading.the-variants.{Accepted as ReadAccepted}
+use Rattle.reader.specs.declared.decoding.Columns.{Columns}
+use Rattle.reader.specs.declared.decoding.Decoded.{Decoded}
+use Rattle.reader.specs.Decode.{ColumnsOf, Decoding}
+use Rattle.reader.proofs.Answers.{accepted-fine}
+use Rattle.reader.proofs.Outcome.{decoding-columns}
+use Rattle.reader.proofs.Held.{columns-same}
+use Rattle.planner.specs.LineOf.{lineOf}
+use Rattle.planner.specs.declared.Answer.{Answer}
+use Rattle.planner.specs.declared.Answer.the-variants.{Accepted, Refused as AnswerRefused}
+use Rattle.planner.specs.Plan.{Buffers, RightLengths, Planned, RefusedFor}
+use Rattle.planner.specs.Settled.{Settled, Sound}
+use Rattle.planner.proofs.Lines.{lines-of-same}
+use Rattle.planner.proofs.Settles.{settled-alike, settled-planned}
+
+-- ---- accepted
+
+abbrev pub listsOf : Columns → Lists
+listsOf c = lists (c .departures) (c .driving) (c .delays) (c .passengers)
+
+module _ (s : List ℕ) (d : Decoded) (m T : ℕ) (told : Decoding (sheetVerdict s) s d)
+    (answer : d .answer ≡ ReadAccepted m T) where
+  passed : (sheetVerdict s ≡ Fine) × (m ≡ trainsOf s) × (T ≡ periodOf s)
+  passed = accepted-fine (sheetVerdict s) _ _ (sym answer ∙ told .answer)
+
+  pub taken-fine : sheetVerdict s ≡ Fine
+  taken-fine = passed .0
+
+  accepted : AcceptedSheet s
+  accepted = accepted-of-fine s taken-fine
+
+  columns : ColumnsOf s (d .columns)
+  columns = decoding-columns _ s d taken-fine told
+
+  numbers-same : SameNumbers (numbersIn m T (listsOf (d .columns))) (numbersOf s)
+  numbers-same =
+      let range = accepted .numbers in
+      subst (λ (P : ℕ). SameNumbers (numbersIn m P (listsOf (d .columns))) (numbersOf s)) (sym (passed .2))
+      (columns-same s m
+      (record {
+        trains = passed .1;
+        least = omega (arith, passed .1, range .trains-least);
+        most = omega (arith, passed .1, range .trains-most);
+        long = accepted .long ∙ ap bytesOf (sym (passed .1));
+      })
+      (d .columns) columns)
+
+  pub taken-sound : Sound m T (listsOf (d .columns))
+  taken-sound =
+      record {
+        lengths = record {
+          departures = ap length (columns .departures) ∙ padded-length 64 _ _;
+          driving = ap length (columns .driving) ∙ padded-length 64 _ _;
+          delays = ap length (columns .delays) ∙ padded-length 64 _ _;
+          passengers = ap length (columns .passengers) ∙ padded-length 2080 _ _;
+        };
+        range = in-range-same _ _ numbers-same (accepted .numbers);
+      }
+
+  pub taken-planned : (before after : Buffers) (n : ℕ)
+      → Settled (bookOf (lineOf (numbersIn m T (listsOf (d .columns))))) m before after n
+      → Planned (lineOf (numbersOf s)) before after (Accepted n)
+  unfolding lineOf lineFrom
+  taken-planned before after n S =
+      settled-planned (lineOf (numbersOf s)) before after n
+      (subst (λ (t : ℕ). Settled (bookOf (lineOf (numbersOf s))) t before after n) (passed .1)
+      (settled-alike _ _ m before after n (books-of-lines 1 _ _ (lines-of-same _ _ numbers-same)) S))
+
+-- ---- refused
+
+-- buffers of the right lengths are blanked by 64; a refusal that does not blank asks for no length
+pub refused-for : (r : Refusal) (before after : Buffers) (a : Answer) → RightLengths before ⊎ (blanksOf r ≡ false)
+    → a ≡ AnswerRefused r
+    → after .decisions ≡ (if blanksOf r then replicate (length (before .decisions)) 2 else before .decisions)
+    → after .delays ≡ (if blanksOf r then replicate (length (before .delays)) 0 else before .delays)
+    → after .cells ≡ before .cells
+    → RefusedFor r before after a
+refused-for r before after a (inl right) answer decisions delays cells =
+    record {
+      answer = answer;
+      decisions = rw (right .decisions) at decisions;
+      delays = rw (right .delays) at delays;
+      cells = cells;
+    }
+refused-for r before after a (inr blanks) answer decisions delays cells =
+    record {
+      answer = answer;
+      decisions = decisions ∙ if-no _ _ blanks ∙ sym (if-no _ _ blanks);
+      delays = delays ∙ if-no _ _ blanks ∙ sym (if-no _ _ blanks);
+      cells = cells;
+    }

@@ -1,0 +1,82 @@
+-- `settling::settle_numbers` meets its contract: the lists hold the line of the numbers.
+-- Assumes nothing.
+use borrow.Author.Needs.{needs}
+use mathlib.Core.Path.{_≡_}
+use Rattle.cells.specs.Given.{bookIn}
+use Rattle.planner.proofs.Joining.{slack-given, fields-given, lists-given, lists-alike}
+use Rattle.planner.proofs.Settles.{settled-alike}
+use Rattle.planner.proofs.settling.settle_numbers.Statement.{statement}
+use Rattle.planner.proofs.settling.settle_numbers.Tie as tie
+
+slice-aggregate-slacks : tie.Need-slice-aggregate-slacks
+slice-aggregate-slacks c = search needs
+
+slice-aggregate-slacks-2 : tie.Need-slice-aggregate-slacks-2
+slice-aggregate-slacks-2 c = search needs
+
+slacks-requires : tie.Need-slacks-requires
+slacks-requires c κs =
+    let start = c .before .before .before .before .before .before .before .before .before in
+    (start .pre .1 .range .trains-most, slack-given _ _ _ (start .pre .1))
+
+slice-aggregate-sums-of : tie.Need-slice-aggregate-sums-of
+slice-aggregate-sums-of c = search needs
+
+abbrev start-of : tie.After-sums-of → tie.Start
+start-of c = c .before .before .before .before .before .before .before .before .before .before .before .before
+
+sums-of-requires : tie.Need-sums-of-requires
+sums-of-requires c κs = fields-given _ _ _ (c .before .before .before .before .before .before .before .before .before .before .before .pre .1)
+
+slice-aggregate-settle : tie.Need-slice-aggregate-settle
+slice-aggregate-settle c = search needs
+
+slice-aggregate-settle-2 : tie.Need-slice-aggregate-settle-2
+slice-aggregate-settle-2 c = search needs
+
+slice-aggregate-settle-3 : tie.Need-slice-aggregate-settle-3
+slice-aggregate-settle-3 c = search needs
+
+slice-aggregate-settle-4 : tie.Need-slice-aggregate-settle-4
+slice-aggregate-settle-4 c = search needs
+
+settle-requires : tie.Need-settle-requires
+settle-requires c κs =
+    let summed = c .before .before .before .before .before .before .before in
+    let start = start-of summed in
+    (start .pre .0, lists-given _ _ _ (start .pre .1) _ (summed .sums-of .ensures) _ (summed .before .before .slacks .ensures))
+
+same-length : tie.Need-same-length
+same-length c = search needs
+
+same-length-2 : tie.Need-same-length-2
+same-length-2 c = search needs
+
+same-length-3 : tie.Need-same-length-3
+same-length-3 c = search needs
+
+returns : tie.Need-returns
+returns c =
+    let summed = c .before .before .before .before .before .before .before .before .before .before .before .before .before .before in
+    let start = start-of summed in
+    settled-alike _ _ _ _ _ _ (lists-alike _ _ _ (start .pre .1) _ (summed .sums-of .ensures) _ (summed .before .before .slacks .ensures))
+    (c .before .before .before .before .before .before .settle .ensures)
+
+pub settle-numbers-spec : {M : Type 1} → statement M
+settle-numbers-spec =
+    tie.close
+    (tie.spec
+    slice-aggregate-slacks
+    slice-aggregate-slacks-2
+    slacks-requires
+    slice-aggregate-sums-of
+    sums-of-requires
+    slice-aggregate-settle
+    slice-aggregate-settle-2
+    slice-aggregate-settle-3
+    slice-aggregate-settle-4
+    settle-requires
+    same-length
+    same-length-2
+    same-length-3
+    returns)

@@ -1,0 +1,66 @@
+-- Sheet B of document 01, "Sums to check by hand", and what plan answers on sheets A, B and B with T 13 (cases a, b4
+-- and b6).
+--   sheetB, sheetB13             the bytes of sheet B, by the layout of "The bit sheet", and of B with T 13
+--   Leaves m n ds ys rows after a     m trains: the total is n; the decision bytes begin with ds and the delays with
+--                                ys, the rest 0; the cells in use are these rows
+--   Answers s m n ds ys rows     plan leaves that on the sheet s, whatever buffers of the right lengths held before
+--   decisionsB, rowsB, decisionsB13, rowsB13     the bytes and rows of cases b4 and b6 (line/specs/Cases)
+-- Assumes nothing.
+use Prim.Native.Nat.{ℕ, _≤_}
+use mathlib.Core.Path.{_≡_}
+use mathlib.Core.List.{List, [], _∷_}
+use lib.ListN.{getD}
+use Rattle.lists.specs.Run.{nth, padded}
+use Rattle.line.specs.Ways.{Rows, tableFrom}
+use Rattle.sheet.specs.SheetA.{sheetA}
+use Rattle.cells.specs.Place.{place}
+use Rattle.planner.specs.declared.Answer.{Answer}
+use Rattle.planner.specs.declared.Answer.the-variants.{Accepted}
+use Rattle.planner.specs.Plan.{Buffers, RightLengths, Plan}
+
+-- m 3, T 10; departures 10, 30, 55; driving 15, 20, 12; delays 9, 3, 0; passengers 1-2: 4, 1-3: 6, 1-4: 5, 2-3: 10,
+-- 2-4: 2, 3-4: 20
+abbrev pub sheetB : List ℕ
+sheetB =
+    0x06 ∷ 0x02 ∷ 0x80 ∷ 0x28 ∷ 0x0f ∷ 0x01 ∷ 0x20 ∷ 0x3c ∷ 0x0a ∷ 0x00 ∷ 0x30 ∷ 0x37 ∷ 0x03
+    ∷ 0x00 ∷ 0x00 ∷ 0x00 ∷ 0x80 ∷ 0x03 ∷ 0x00 ∷ 0x0a ∷ 0x00 ∷ 0x50 ∷ 0x00 ∷ 0x40 ∷ 0x0a ∷ 0x00 ∷ []
+
+abbrev pub sheetB13 : List ℕ
+sheetB13 =
+    0x06 ∷ 0x03 ∷ 0x40 ∷ 0x28 ∷ 0x0f ∷ 0x01 ∷ 0x20 ∷ 0x3c ∷ 0x0a ∷ 0x00 ∷ 0x30 ∷ 0x37 ∷ 0x03
+    ∷ 0x00 ∷ 0x00 ∷ 0x00 ∷ 0x80 ∷ 0x03 ∷ 0x00 ∷ 0x0a ∷ 0x00 ∷ 0x50 ∷ 0x00 ∷ 0x40 ∷ 0x0a ∷ 0x00 ∷ []
+
+pub record Leaves (m n : ℕ) (ds ys : List ℕ) (rows : Rows) (after : Buffers) (a : Answer) : Type 0 where
+  pub answer : a ≡ Accepted n
+  pub decisions : after .decisions ≡ padded 64 m (nth ds)
+  pub delays : after .delays ≡ padded 64 m (nth ys)
+  pub cells : (k l : ℕ) → 1 ≤ k → k ≤ l → l ≤ m → getD (after .cells) (place m k l) 0 ≡ tableFrom rows k l
+
+abbrev pub Answers : List ℕ → ℕ → ℕ → List ℕ → List ℕ → Rows → Type 0
+Answers s m n ds ys rows =
+    (before after : Buffers) (a : Answer) → RightLengths before → Plan s before after a → Leaves m n ds ys rows after a
+
+abbrev pub AnswersA : Type 0
+AnswersA = Answers sheetA 1 21 (0 ∷ []) (7 ∷ []) ((21 ∷ []) ∷ [])
+
+-- ---- go, keep
+
+abbrev pub decisionsB : List ℕ
+decisionsB = 0 ∷ 0 ∷ 1 ∷ []
+
+abbrev pub rowsB : Rows
+rowsB = (176 ∷ 140 ∷ 54 ∷ []) ∷ (30 ∷ 0 ∷ []) ∷ (0 ∷ []) ∷ []
+
+abbrev pub AnswersB : Type 0
+AnswersB = Answers sheetB 3 176 decisionsB (9 ∷ 3 ∷ 0 ∷ []) rowsB
+
+-- ---- keep, keep
+
+abbrev pub decisionsB13 : List ℕ
+decisionsB13 = 0 ∷ 1 ∷ 1 ∷ []
+
+abbrev pub rowsB13 : Rows
+rowsB13 = (202 ∷ 166 ∷ 54 ∷ []) ∷ (30 ∷ 0 ∷ []) ∷ (0 ∷ []) ∷ []
+
+abbrev pub AnswersB13 : Type 0
+AnswersB13 = Answers sheetB13 3 202 decisionsB13 (9 ∷ 7 ∷ 2 ∷ []) rowsB13

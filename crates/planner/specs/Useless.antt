@@ -1,0 +1,57 @@
+-- The useless versions of plan. Document 01, "What the contracts have to say": each of them breaks the contract, on
+-- sheet B with buffers of the right lengths.
+--   RefusesAll      one that refuses all sheets: sheet B is never refused
+--   SameDecisions   one with the same decisions for all lines: on sheet B they differ from those on sheet B with T 13,
+--   AllKeep         and are not keep throughout
+--   DoesNothing     one that does nothing: decisions other than the plan's do not stay as they were,
+--   StaysBlank      nor do blank ones
+-- Assumes nothing.
+use Prim.Native.Nat.{ℕ}
+use mathlib.Core.Path.{_≡_}
+use lib.ListN.{replicate}
+use Rattle.lists.specs.Run.{nth, padded}
+use Rattle.rail.specs.declared.Refusal.{Refusal}
+use Rattle.line.specs.Policy.{Keep}
+use Rattle.cells.specs.Shown.{shown}
+use Rattle.planner.specs.declared.Answer.{Answer}
+use Rattle.planner.specs.declared.Answer.the-variants.{Refused as AnswerRefused}
+use Rattle.planner.specs.Plan.{Buffers, RightLengths, Plan}
+use Rattle.planner.specs.Sheets.{sheetB, sheetB13, decisionsB}
+
+abbrev pub RefusesAll : Type 0
+RefusesAll =
+    (before after : Buffers) (r : Refusal)
+    → RightLengths before
+    → ¬ (Plan sheetB before after (AnswerRefused r))
+
+abbrev pub SameDecisions : Type 0
+SameDecisions =
+    (before after before′ after′ : Buffers) (a a′ : Answer)
+    → RightLengths before
+    → RightLengths before′
+    → Plan sheetB before after a
+    → Plan sheetB13 before′ after′ a′
+    → ¬ (after .decisions ≡ after′ .decisions)
+
+abbrev pub AllKeep : Type 0
+AllKeep =
+    (before after : Buffers) (a : Answer)
+    → RightLengths before
+    → Plan sheetB before after a
+    → ¬ (after .decisions ≡ shown 3 (λ (i : ℕ). Keep))
+
+abbrev pub DoesNothing : Type 0
+DoesNothing =
+    (before after : Buffers) (a : Answer)
+    → RightLengths before
+    → ¬ (before .decisions ≡ padded 64 3 (nth decisionsB))
+    → Plan sheetB before after a
+    → ¬ (after .decisions ≡ before .decisions)
+
+abbrev pub StaysBlank : Type 0
+StaysBlank =
+    (before after : Buffers) (a : Answer)
+    → RightLengths before
+    → before .decisions ≡ replicate 64 2
+    → Plan sheetB before after a
+    → ¬ (after .decisions ≡ before .decisions)
