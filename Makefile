@@ -20,6 +20,8 @@ test:
 vectors:
 	python3 tests/cases.py --check
 	python3 tests/sheets.py --check
+	python3 tests/plan_cases.py --check
+	python3 tests/plans.py --check
 
 format:
 	rt fmt

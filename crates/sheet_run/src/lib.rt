@@ -1,13 +1,11 @@
 // Runs read and write on records from a file descriptor and prints what they answer and leave.
 // A record is a name ('N'), a sheet to read ('R') or numbers to write ('W'); tests/sheets.py gives
 // their form.
-mod parts;
 mod reads;
-mod source;
-mod sums;
 mod writes;
 
-use crate::source::byte;
+use records::source;
+use records::source::byte;
 
 // The letter a record begins with.
 const NAME: u32 = 78;

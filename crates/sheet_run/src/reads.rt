@@ -1,10 +1,10 @@
 // Records of read.
-use crate::parts;
-use crate::source;
-use crate::source::short;
-use crate::sums;
 use crate::writes;
 use reader::Reading;
+use records::parts;
+use records::source;
+use records::source::short;
+use records::sums;
 use sheet::format::pairs_of;
 
 // What read answered.

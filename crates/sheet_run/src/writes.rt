@@ -1,9 +1,9 @@
 // Records of write.
-use crate::parts;
-use crate::source::list;
-use crate::source::long;
-use crate::source::short;
-use crate::sums;
+use records::parts;
+use records::source::list;
+use records::source::long;
+use records::source::short;
+use records::sums;
 use writer::Writing;
 
 // Number, place and length.

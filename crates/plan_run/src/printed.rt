@@ -1,0 +1,58 @@
+// Lists in full: a space before each number.
+ghost use Prim.Native.Nat.{_≤_};
+use records::parts;
+
+fn wide_byte(b: u8) -> u64 {
+    b as u64
+}
+
+fn wide(n: u32) -> u64 {
+    n as u64
+}
+
+pub fn bytes(list: &[u8]) {
+    let mut k = 0;
+    while k < list.len() {
+        say::next(wide_byte(list[k]));
+        k += 1;
+    }
+    say::end();
+}
+
+pub fn numbers(list: &[u32]) {
+    let mut k = 0;
+    while k < list.len() {
+        say::next(wide(list[k]));
+        k += 1;
+    }
+    say::end();
+}
+
+fn longs(list: &[u64]) {
+    let mut k = 0;
+    while k < list.len() {
+        say::next(list[k]);
+        k += 1;
+    }
+    say::end();
+}
+
+// The cells in use of row k, of m trains: cell (k, k) stands at 64(k-1)+(k-1).
+fn row(cells: &[u64], k: usize, m: usize)
+    requires { ⌜ (1 ≤ k) × ((k ≤ m) × (m ≤ 127)) ⌝ }
+{
+    say::word(b"row ");
+    say::number(k as u64);
+    say::word(b":");
+    longs(parts::longs(parts::longs_behind(cells, 65 * (k - 1)), m - k + 1));
+}
+
+pub fn rows(cells: &[u64], m: usize)
+    requires { ⌜ m ≤ 127 ⌝ }
+{
+    let mut k = 1;
+    while k <= m {
+        row(cells, k, m);
+        k += 1;
+    }
+}
