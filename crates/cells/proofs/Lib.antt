@@ -3,10 +3,5 @@ pub mod Held
 pub mod Leavers
 pub mod Bounded
 pub mod Summing
-pub mod Runs
-pub mod Filling
-pub mod Working
-pub mod Costs
 pub mod Written
-pub mod Walks
 pub mod Shown

@@ -14,7 +14,7 @@ use Rattle.line.specs.Sum.{sum_from_to_}
 use Rattle.line.proofs.Sums.{over, sum-over, over-none, over-first}
 use Rattle.cells.specs.Place.{square}
 use Rattle.cells.specs.Given.{leavingIn}
-use Rattle.cells.specs.Steps.{pairIn, SumAt, ColumnSummed}
+use Rattle.cells.specs.Summed.{pairIn, SumAt, ColumnSummed}
 
 pub record ColumnTo (m : ℕ) (passengers : List ℕ) (l : ℕ) (before sums : List ℕ) (n k : ℕ) : Type 0 where
   pub most : k ≤ l

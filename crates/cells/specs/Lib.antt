@@ -1,4 +1,4 @@
 pub mod Place
 pub mod Given
+pub mod Summed
 pub mod Shown
-pub mod Steps

@@ -2,7 +2,5 @@
 // to 1, and decisions and delays read off cells as they stand. Nothing but the cells in use of the
 // rows that are worked is written.
 pub mod place;
-pub mod rows;
 pub mod sums;
 pub mod times;
-pub mod walk;

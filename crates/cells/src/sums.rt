@@ -6,7 +6,7 @@ ghost use lib.ListN.{length};
 ghost use Rattle.line.specs.Ranges.{everyone};
 ghost use Rattle.sheet.specs.Pairs.{IsPair};
 ghost use Rattle.cells.specs.Given.{leavingIn, boardedIn, SumsGiven};
-ghost use Rattle.cells.specs.Steps.{pairIn, Fields, ColumnSummed, Summed, Wholes};
+ghost use Rattle.cells.specs.Summed.{pairIn, Fields, ColumnSummed, Summed, Wholes};
 use crate::place::square;
 use crate::times::wide;
 use rail::Station;

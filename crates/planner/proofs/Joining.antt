@@ -21,7 +21,7 @@ use Rattle.sheet.specs.Pairs.{passengersOfPair}
 use Rattle.sheet.specs.Checks.{earliestOf}
 use Rattle.sheet.proofs.Lengths.{pairs-le}
 use Rattle.cells.specs.Given.{leavingIn, boardedIn, aboardIn, bookIn, SumsGiven, Given}
-use Rattle.cells.specs.Steps.{pairIn, Fields, Summed}
+use Rattle.cells.specs.Summed.{pairIn, Fields, Summed}
 use Rattle.planner.specs.LineOf.{lineOf}
 use Rattle.planner.specs.Settled.{Sound, SlackGiven, Slacks}
 use Rattle.planner.proofs.Lines.{line-in-range}

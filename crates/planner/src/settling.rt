@@ -11,13 +11,13 @@ ghost use Rattle.planner.specs.LineOf.{lineOf};
 ghost use Rattle.planner.specs.Plan.{buffers};
 ghost use Rattle.planner.specs.Settled.{Settled, Workable, Sound, SlackGiven, Slacks};
 use cells::place::cell_at;
-use cells::rows::work_rows;
 use cells::sums::sums_of;
-use cells::walk::follow;
 use lists::copy_u8;
 use lists::copy_u32;
 use rail::Train;
 use reader::Columns;
+use rows::work_rows;
+use walk::follow;
 
 // The slack at the station that a train leaves: its departure less that of its feeder less the
 // feeder's driving time.

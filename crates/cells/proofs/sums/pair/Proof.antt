@@ -5,7 +5,7 @@ use mathlib.Core.Path.{_≡_, ap, _∙_}
 use Prim.Native.Nat.{ℕ, _-_}
 use native.Mathlib.Omega.{arith}
 use lib.ListN.{getD}
-use Rattle.cells.specs.Steps.{pairIn}
+use Rattle.cells.specs.Summed.{pairIn}
 use Rattle.cells.proofs.sums.pair.Statement.{statement}
 use Rattle.cells.proofs.sums.pair.Tie as tie
 

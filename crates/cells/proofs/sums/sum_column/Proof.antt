@@ -4,7 +4,7 @@ use borrow.Author.Needs.{needs}
 use mathlib.Core.Path.{_≡_, ap, _∙_}
 use Prim.Native.Nat.{_≤_}
 use native.Mathlib.Omega.{arith}
-use Rattle.cells.specs.Steps.{pairIn}
+use Rattle.cells.specs.Summed.{pairIn}
 use Rattle.cells.proofs.Summing.{ColumnTo, column-start, column-next, column-end}
 use Rattle.cells.proofs.sums.sum_column.Statement.{statement}
 use Rattle.cells.proofs.sums.sum_column.Tie as tie

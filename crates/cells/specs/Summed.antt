@@ -1,0 +1,41 @@
+-- The sums of a line, from its passenger fields: place (k, l) of the square holds those who board at k to l and leave
+-- train l. What the steps of summing need and leave.
+-- Assumes nothing.
+use Prim.Native.Nat.{ℕ, _+_, _≤_}
+use mathlib.Core.Path.{_≡_}
+use mathlib.Core.List.{List}
+use lib.ListN.{length}
+use Rattle.lists.specs.Run.{nth}
+use Rattle.line.specs.Sum.{sum_from_to_}
+use Rattle.sheet.specs.Format.{pairsOf}
+use Rattle.sheet.specs.Pairs.{fieldOfPair}
+use Rattle.cells.specs.Given.{leavingIn, boardedIn}
+
+-- those who board at i and leave at j, in a list of passenger fields
+unfoldable pub pairIn : ℕ → List ℕ → ℕ → ℕ → ℕ
+pairIn m passengers i j = nth passengers (fieldOfPair m i j)
+
+-- the fields of a line of m trains, each at most 10,000
+pub record Fields (m : ℕ) (passengers : List ℕ) : Type 0 where
+  pub trains : m ≤ 64
+  pub long : pairsOf m ≤ length passengers
+  pub most : (f : ℕ) → 1 ≤ f → f ≤ pairsOf m → nth passengers f ≤ 10000
+
+-- those who board at k to l and leave train l, in place (k, l)
+abbrev pub SumAt : ℕ → List ℕ → List ℕ → ℕ → ℕ → Type 0
+SumAt m passengers sums k l = leavingIn sums k l ≡ sum (λ i. pairIn m passengers i (l + 1)) from k to l
+
+-- the column of train l is summed, the others are as they were
+pub record ColumnSummed (m : ℕ) (passengers : List ℕ) (l : ℕ) (before after : List ℕ) : Type 0 where
+  pub long : length after ≡ length before
+  pub summed : (k : ℕ) → 1 ≤ k → k ≤ l → SumAt m passengers after k l
+  pub others : (k t : ℕ) → 1 ≤ t → t ≤ 64 → ¬ (t ≡ l) → leavingIn after k t ≡ leavingIn before k t
+
+pub record Summed (m : ℕ) (passengers sums : List ℕ) : Type 0 where
+  pub long : length sums ≡ 4096
+  pub summed : (k l : ℕ) → 1 ≤ k → k ≤ l → l ≤ m → SumAt m passengers sums k l
+
+-- by train l, those who board at l or later and leave
+pub record Wholes (m : ℕ) (sums whole : List ℕ) : Type 0 where
+  pub long : length whole ≡ 64
+  pub held : (l : ℕ) → 1 ≤ l → l ≤ m → nth whole l ≡ boardedIn m sums l l

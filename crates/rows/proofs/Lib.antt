@@ -1,0 +1,4 @@
+pub mod Least
+pub mod Runs
+pub mod Filling
+pub mod Working

@@ -1,0 +1,139 @@
+-- `go_along` meets its contract. Invariant: the stations after i are done. Measure: i.
+-- Assumes nothing.
+use borrow.Author.Needs.{needs}
+use mathlib.Core.Path.{_≡_, refl, ap, _∙_}
+use Prim.Native.Nat.{ℕ, _+_, _-_, _*_, _≤_}
+use native.Mathlib.Omega.{arith}
+use lib.ListN.{getD, replicate, getD-replicate}
+use Rattle.lists.specs.Run.{nth}
+use Rattle.line.specs.Ranges.{everyone}
+use Rattle.cells.specs.Given.{boardedIn}
+use Rattle.cells.proofs.Held.{nth-index}
+use Rattle.rows.proofs.Runs.{GoneTo, gone-start, gone-next, gone-end, more-le, whole-le}
+use Rattle.rows.proofs.go_along.Statement.{statement}
+use Rattle.rows.proofs.go_along.Tie as tie
+
+abbrev Inv-loop : tie.InvT-loop
+Inv-loop first m period sums whole go₀ sum₀ i₀ go sum i = GoneTo m (first .0) period sums go sum i
+
+abbrev μ-loop : tie.MeasureT-loop
+μ-loop first m period sums whole go₀ sum₀ i₀ go sum i = i
+
+loop-holds : tie.Need-loop-holds Inv-loop μ-loop
+loop-holds c =
+    let start = c .before .before .before in
+    gone-start _ _ _ _ (replicate 64 0) refl
+    (getD-replicate 64 (start .args .first .0 - 1) 0 0 (omega (arith, start .pre .0, start .pre .1, start .pre .3 .trains)))
+    (start .pre .1)
+
+index-requires : tie.Need-index-requires Inv-loop μ-loop
+index-requires c κs = search needs
+
+leaving-requires : tie.Need-leaving-requires Inv-loop μ-loop
+leaving-requires c κs = search needs
+
+-- those who board at station i or later, of the train at which the turn stands
+whole-here : (c : tie.After-leaving Inv-loop μ-loop) →
+    let start = c .before .before .before .before .before .before .before .before .args in
+    let i = c .before .before .before .before .loop .i in
+    getD (start .whole .now) (c .before .index .result) 0 ≡ boardedIn (start .m) (start .sums .now) i i
+whole-here c =
+    let start = c .before .before .before .before .before .before .before .before in
+    let at-loop = c .before .before .before .before .loop in
+    nth-index (start .args .whole .now) _ (at-loop .i) (c .before .index .ensures)
+    ∙ start .pre .4 .held (at-loop .i) (omega (arith, start .pre .0, at-loop .inv .from)) (at-loop .inv .most)
+
+-- they are among those who are counted, who are no more than everyone
+turn : (c : tie.After-leaving Inv-loop μ-loop) →
+    let start = c .before .before .before .before .before .before .before .before .args in
+    let more = c .before .before .before .before .loop .sum + c .leaving .result in
+    (more ≤ everyone) × (getD (start .whole .now) (c .before .index .result) 0 ≤ more)
+turn c =
+    let start = c .before .before .before .before .before .before .before .before in
+    let at-loop = c .before .before .before .before .loop in
+    let taken = c .before .before .if1 .taken in
+    let e = ap (λ (n : ℕ). at-loop .sum + n) (c .leaving .ensures .0) in (
+      more-le _ _ _ _ (start .pre .3) (start .pre .0) _ _ _ (at-loop .inv) taken _ _ e (whole-here c),
+      whole-le _ _ _ _ (start .pre .3) (start .pre .0) _ _ _ (at-loop .inv) taken _ _ e (whole-here c),
+    )
+
+add-sum : tie.Need-add-sum Inv-loop μ-loop
+add-sum c = omega (arith, turn c .0)
+
+mul-cost : tie.Need-mul-cost Inv-loop μ-loop
+mul-cost c = search needs
+
+shared-slice-read-cost : tie.Need-shared-slice-read-cost Inv-loop μ-loop
+shared-slice-read-cost c = search needs
+
+sub-cost : tie.Need-sub-cost Inv-loop μ-loop
+sub-cost c = turn (c .before) .1
+
+leaves-requires : tie.Need-leaves-requires Inv-loop μ-loop
+leaves-requires c κs = search needs
+
+period-at-requires : tie.Need-period-at-requires Inv-loop μ-loop
+period-at-requires c κs = search needs
+
+minutes : (c : tie.After-period-at Inv-loop μ-loop) →
+    let start = c .before .before .before .before .before .before .before .before .before .before .before .args in
+    c .period-at .result ≡ nth (start .period .now) (c .before .before .before .before .before .before .before .loop .i)
+minutes c =
+    let start = c .before .before .before .before .before .before .before .before .before .before .before .args in
+    c .period-at .ensures ∙ ap (λ (s : ℕ). nth (start .period .now) s) (c .before .leaves .ensures)
+
+cost-requires : tie.Need-cost-requires Inv-loop μ-loop
+cost-requires c κs =
+    let start = c .before .before .before .before .before .before .before .before .before .before .before .pre in
+    let at-loop = c .before .before .before .before .before .before .before in
+    let after = c .before .before .before .before .before .if1 .taken in
+    let often = start .2 .most (at-loop .loop .i) (omega (arith, start .0)) (at-loop .loop .inv .most) in
+    (omega (arith, turn (c .before .before .before) .0), omega (arith, minutes c, often))
+
+mul-go : tie.Need-mul-go Inv-loop μ-loop
+mul-go c = search needs
+
+array-write-go : tie.Need-array-write-go Inv-loop μ-loop
+array-write-go c = search needs
+
+sub-i : tie.Need-sub-i Inv-loop μ-loop
+sub-i c = search needs
+
+loop-less : tie.Need-loop-less Inv-loop μ-loop
+loop-less c = search needs
+
+loop-again : tie.Need-loop-again Inv-loop μ-loop
+loop-again c =
+    let called = c .before .before .before .before in
+    let start = called .before .before .before .before .before .before .before .before in
+    let at-loop = called .before .before .before .before .loop in
+    gone-next _ _ _ _ (start .pre .3) (start .pre .0) (at-loop .go) (at-loop .sum) (at-loop .i) (at-loop .inv)
+    (called .before .before .if1 .taken) _ _
+    (ap (λ (n : ℕ). at-loop .sum + n) (called .leaving .ensures .0)) (whole-here called) _ _ _
+    (called .before .index .ensures) (minutes (c .before)) (c .cost .ensures .0)
+
+returns : tie.Need-returns Inv-loop μ-loop
+returns c = gone-end _ _ _ _ _ _ _ (c .before .before .loop .inv) (omega arith)
+
+pub go-along-spec : {M : Type 1} → statement M
+go-along-spec =
+    tie.close
+    (tie.spec
+    Inv-loop
+    μ-loop
+    loop-holds
+    index-requires
+    leaving-requires
+    add-sum
+    mul-cost
+    shared-slice-read-cost
+    sub-cost
+    leaves-requires
+    period-at-requires
+    cost-requires
+    mul-go
+    array-write-go
+    sub-i
+    loop-less
+    loop-again
+    returns)

@@ -1,0 +1,128 @@
+-- `stay_along` meets its contract. Invariant: the stations before i are done. Measure: the trains left.
+-- Assumes nothing.
+use borrow.Author.Needs.{needs}
+use mathlib.Core.Path.{_≡_, refl, ap, _∙_}
+use Prim.Native.Nat.{ℕ, _+_, _-_, _*_, _≤_}
+use native.Mathlib.Omega.{arith}
+use lib.ListN.{replicate}
+use Rattle.lists.specs.Run.{nth}
+use Rattle.line.specs.Cells.{arrivalOn}
+use Rattle.line.specs.Ranges.{latest}
+use Rattle.cells.specs.Given.{runningIn}
+use Rattle.rows.proofs.Runs.{StayedTo, stayed-start, stayed-next, stayed-end, arrives-on, arrives-le}
+use Rattle.rows.proofs.stay_along.Statement.{statement}
+use Rattle.rows.proofs.stay_along.Tie as tie
+
+abbrev Inv-loop : tie.InvT-loop
+Inv-loop first m slack source sums excess₀ keep₀ late₀ i₀ excess keep late i =
+    StayedTo m (first .0) slack source sums excess keep late i
+
+abbrev μ-loop : tie.MeasureT-loop
+μ-loop first m slack source sums excess₀ keep₀ late₀ i₀ excess keep late i = m + 1 - i
+
+loop-holds : tie.Need-loop-holds Inv-loop μ-loop
+loop-holds c = stayed-start _ _ _ _ _ (replicate 64 0) refl (c .before .before .before .pre .1)
+
+leaves-requires : tie.Need-leaves-requires Inv-loop μ-loop
+leaves-requires c κs = search needs
+
+excess-at-requires : tie.Need-excess-at-requires Inv-loop μ-loop
+excess-at-requires c κs = search needs
+
+excess-here : (c : tie.After-excess-at Inv-loop μ-loop) →
+    let start = c .before .before .before .before .before .before .before .args in
+    let at-loop = c .before .before .before .loop in
+    c .excess-at .result ≡ at-loop .late - nth (start .slack .now) (at-loop .i)
+excess-here c =
+    let start = c .before .before .before .before .before .before .before .args in
+    let at-loop = c .before .before .before .loop in
+    c .excess-at .ensures ∙ ap (λ (s : ℕ). at-loop .late - nth (start .slack .now) s) (c .before .leaves .ensures)
+
+arrives-requires : tie.Need-arrives-requires Inv-loop μ-loop
+arrives-requires c κs =
+    let start = c .before .before .before .before .before .before .before .pre in
+    let at-loop = c .before .before .before .loop in
+    let S = at-loop .inv in
+    let taken = c .before .before .loop-test .taken in
+    let pos : 1 ≤ at-loop .i = omega (arith, S .from, start .0) in (
+      pos,
+      omega (arith, start .2 .trains, start .2 .long-source),
+      omega (arith, S .small, excess-here c),
+      start .2 .most _ pos taken,
+    )
+
+arrived : (c : tie.After-arrives Inv-loop μ-loop) →
+    let start = c .before .before .before .before .before .before .before .before .args in
+    let at-loop = c .before .before .before .before .loop in
+    (c .arrives .result ≡ arrivalOn (runningIn (start .slack .now) (start .source .now)) (start .first .0) (at-loop .i))
+    × (c .arrives .result ≤ latest)
+arrived c =
+    let start = c .before .before .before .before .before .before .before .before in
+    let at-loop = c .before .before .before .before .loop in
+    let taken = c .before .before .before .loop-test .taken in
+    let e = excess-here (c .before) in (
+      arrives-on _ _ _ _ _ (start .pre .2) (start .pre .0) _ _ _ _ (at-loop .inv) taken _ _ e (c .arrives .ensures),
+      arrives-le _ _ _ _ _ (start .pre .2) (start .pre .0) _ _ _ _ (at-loop .inv) taken _ _ e (c .arrives .ensures),
+    )
+
+index-requires : tie.Need-index-requires Inv-loop μ-loop
+index-requires c κs = search needs
+
+mul-excess : tie.Need-mul-excess Inv-loop μ-loop
+mul-excess c = search needs
+
+array-write-excess : tie.Need-array-write-excess Inv-loop μ-loop
+array-write-excess c = search needs
+
+leaving-requires : tie.Need-leaving-requires Inv-loop μ-loop
+leaving-requires c κs = search needs
+
+cost-requires : tie.Need-cost-requires Inv-loop μ-loop
+cost-requires c κs = (c .leaving .ensures .1, arrived (c .before .before) .1)
+
+mul-keep : tie.Need-mul-keep Inv-loop μ-loop
+mul-keep c = search needs
+
+array-write-keep : tie.Need-array-write-keep Inv-loop μ-loop
+array-write-keep c = search needs
+
+add-i : tie.Need-add-i Inv-loop μ-loop
+add-i c = search needs
+
+loop-less : tie.Need-loop-less Inv-loop μ-loop
+loop-less c = search needs
+
+loop-again : tie.Need-loop-again Inv-loop μ-loop
+loop-again c =
+    let turn = c .before .before .before in
+    let start = turn .before .before .before .before .before .before .before .before in
+    let at-loop = turn .before .before .before .before .loop in
+    stayed-next _ _ _ _ _ (start .pre .2) (start .pre .0) _ _ _ _ (at-loop .inv)
+    (turn .before .before .before .loop-test .taken) _ _ (excess-here (turn .before)) (turn .arrives .ensures) _ _
+    (c .before .before .index .ensures)
+    (c .cost .ensures .0 ∙ ap (λ (n : ℕ). n * turn .arrives .result) (c .before .leaving .ensures .0))
+
+returns : tie.Need-returns Inv-loop μ-loop
+returns c = stayed-end _ _ _ _ _ _ _ _ _ (c .before .loop .inv) (omega arith)
+
+pub stay-along-spec : {M : Type 1} → statement M
+stay-along-spec =
+    tie.close
+    (tie.spec
+    Inv-loop
+    μ-loop
+    loop-holds
+    leaves-requires
+    excess-at-requires
+    arrives-requires
+    index-requires
+    mul-excess
+    array-write-excess
+    leaving-requires
+    cost-requires
+    mul-keep
+    array-write-keep
+    add-i
+    loop-less
+    loop-again
+    returns)

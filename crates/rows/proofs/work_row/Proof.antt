@@ -1,0 +1,148 @@
+-- `work_row` meets its contract: the part that is lent is the row, and it comes back where it was.
+-- Assumes nothing.
+use borrow.Author.Needs.{needs}
+use mathlib.Core.Path.{_≡_, refl, sym, ap, _∙_}
+use Prim.Native.Nat.{ℕ, _+_, _-_, _≤_, _<_}
+use native.Mathlib.Omega.{arith}
+use borrow.Rule.Slice.PartMut.{midOf, mid-len, same-len-mid}
+use lib.ListN.{length}
+use Rattle.cells.specs.Place.{place}
+use Rattle.cells.proofs.Places.{row-fits}
+use Rattle.rows.proofs.Working.{row-put-back, row-room}
+use Rattle.rows.proofs.work_row.Statement.{statement}
+use Rattle.rows.proofs.work_row.Tie as tie
+
+stay-along-requires : tie.Need-stay-along-requires
+stay-along-requires c κs = search needs
+
+go-along-requires : tie.Need-go-along-requires
+go-along-requires c κs = search needs
+
+leaves-requires : tie.Need-leaves-requires
+leaves-requires c κs = search needs
+
+place-requires : tie.Need-place-requires
+place-requires c κs = search needs
+
+add-b : tie.Need-add-b
+add-b c = search needs
+
+sub-b : tie.Need-sub-b
+sub-b c = search needs
+
+cast-b : tie.Need-cast-b
+cast-b c = search needs
+
+abbrev start-of : tie.After-place → tie.Start
+start-of c = c .before .before .before .before .before .before .before .before .before .before .before .before .before
+
+-- where the row begins, and that it ends within the cells
+spot : (c : tie.After-place) →
+    let start = start-of c .args in
+    (c .place .result ≡ place (start .m) (start .first .0) (start .first .0))
+    × (c .place .result + (start .m + 1 - start .first .0) ≤ 4096)
+spot c =
+    let start = start-of c in
+    let e = c .place .ensures ∙ ap (place (start .args .m) (start .args .first .0)) (c .before .leaves .ensures) in
+    let fits = row-fits _ _ (start .pre .first) (start .pre .last) (start .pre .given .run .trains) in
+    (e, omega (arith, e, fits))
+
+-- the part is as long as the row
+part-size : (c : tie.After-place) →
+    let start = start-of c .args in
+    let a = c .place .result in
+    let n = start .m + 1 - start .first .0 in
+    length (midOf a (a + n - a) (start .cells .now)) ≡ n
+part-size c =
+    let start = start-of c in
+    let a = c .place .result in
+    let n = start .args .m + 1 - start .args .first .0 in
+    let size : a + n - a ≡ n = omega arith in
+    mid-len a (a + n) (start .args .cells .now) (omega (arith, spot c .1, start .pre .long)) ∙ size
+
+add-b-2 : tie.Need-add-b-2
+add-b-2 c = omega (arith, spot (c .before) .1)
+
+mul-fill-row : tie.Need-mul-fill-row
+mul-fill-row c = omega (arith, spot (c .before) .1)
+
+sub-fill-row : tie.Need-sub-fill-row
+sub-fill-row c = search needs
+
+part-fill-row-start : tie.Need-part-fill-row-start
+part-fill-row-start c = search needs
+
+part-fill-row-end : tie.Need-part-fill-row-end
+part-fill-row-end c = omega (arith, spot (c .before) .1, start-of (c .before) .pre .long)
+
+slice-aggregate-fill-row : tie.Need-slice-aggregate-fill-row
+slice-aggregate-fill-row c = search needs
+
+slice-aggregate-fill-row-2 : tie.Need-slice-aggregate-fill-row-2
+slice-aggregate-fill-row-2 c = search needs
+
+slice-aggregate-fill-row-3 : tie.Need-slice-aggregate-fill-row-3
+slice-aggregate-fill-row-3 c = search needs
+
+fill-row-requires : tie.Need-fill-row-requires
+fill-row-requires c κs =
+    let placed = c .before .before .before .before .before in
+    let start = start-of placed in
+    let go = placed .before .before in
+    rw (part-size placed) (row-room _ _ _ _ _ _ _ _ _ _ (start .pre .given) (start .pre .first) (start .pre .last)
+    (go .before .before .before .stay-along .ensures) (go .go-along .ensures) (start .pre .long-diagonal) (start .pre .most))
+
+mul-result : tie.Need-mul-result
+mul-result c = omega (arith, spot (c .before .before .before .before .before .before .before .before) .1)
+
+slice-read-result : tie.Need-slice-read-result
+slice-read-result c =
+    let filled = c .before .before .before in
+    let placed = filled .before .before .before .before .before .before in
+    let start = start-of placed in
+    let a = placed .place .result in
+    let n = start .args .m + 1 - start .args .first .0 in
+    let long = same-len-mid a (a + n - a) (start .args .cells .now) (filled .fill-row .last .0)
+    (filled .fill-row .kept .0) in
+    omega (arith, long, spot placed .1, start .pre .long, start .pre .last)
+
+same-length : tie.Need-same-length
+same-length c = search needs
+
+returns : tie.Need-returns
+returns c =
+    let filled = c .before .before .before in
+    let placed = filled .before .before .before .before .before .before in
+    let start = start-of placed in
+    let go = placed .before .before in
+    let a = placed .place .result in
+    let n = start .args .m + 1 - start .args .first .0 in
+    let size : a + n - a ≡ n = omega arith in
+    row-put-back _ _ _ _ _ _ _ _ _ _ _ _ _ (start .pre .long) (start .pre .given .run .trains) (start .pre .first)
+    (start .pre .last) (filled .fill-row .kept .0 ∙ part-size placed) (go .before .before .before .stay-along .ensures)
+    (go .go-along .ensures) (filled .fill-row .ensures) a (a + n - a) (spot placed .0) size
+
+pub work-row-spec : {M : Type 1} → statement M
+work-row-spec =
+    tie.close
+    (tie.spec
+    stay-along-requires
+    go-along-requires
+    leaves-requires
+    place-requires
+    add-b
+    sub-b
+    cast-b
+    add-b-2
+    mul-fill-row
+    sub-fill-row
+    part-fill-row-start
+    part-fill-row-end
+    slice-aggregate-fill-row
+    slice-aggregate-fill-row-2
+    slice-aggregate-fill-row-3
+    fill-row-requires
+    mul-result
+    slice-read-result
+    same-length
+    returns)

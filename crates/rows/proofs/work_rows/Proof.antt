@@ -1,0 +1,98 @@
+-- `work_rows` meets its contract. Invariant: the rows after i are worked. Measure: i.
+-- Assumes nothing.
+use borrow.Author.Needs.{needs}
+use mathlib.Core.Path.{_∙_}
+use native.Mathlib.Omega.{arith}
+use Rattle.cells.specs.Given.{bookIn}
+use Rattle.rows.proofs.Working.{WorkedTo, worked-start, worked-back, worked-end}
+use Rattle.rows.proofs.work_rows.Statement.{statement}
+use Rattle.rows.proofs.work_rows.Tie as tie
+
+abbrev Inv-loop : tie.InvT-loop
+Inv-loop cells₀ m slack source period sums whole diagonal₀ i₀ cells diagonal i =
+    WorkedTo (bookIn m slack source period sums) i₀ cells₀ cells diagonal i
+
+abbrev μ-loop : tie.MeasureT-loop
+μ-loop cells₀ m slack source period sums whole diagonal₀ i₀ cells diagonal i = i
+
+wholes-requires : tie.Need-wholes-requires Inv-loop μ-loop
+wholes-requires c κs = search needs
+
+diagonal-after-requires : tie.Need-diagonal-after-requires Inv-loop μ-loop
+diagonal-after-requires c κs = search needs
+
+loop-holds : tie.Need-loop-holds Inv-loop μ-loop
+loop-holds c =
+    let start = c .before .before .before .before .before .before .before .before in
+    worked-start _ _ _ _ (c .diagonal-after .ensures) (start .pre .later)
+
+slice-aggregate-work-row : tie.Need-slice-aggregate-work-row Inv-loop μ-loop
+slice-aggregate-work-row c = search needs
+
+slice-aggregate-work-row-2 : tie.Need-slice-aggregate-work-row-2 Inv-loop μ-loop
+slice-aggregate-work-row-2 c = search needs
+
+work-row-requires : tie.Need-work-row-requires Inv-loop μ-loop
+work-row-requires c κs =
+    let at-loop = c .before .before .before .before in
+    let start = at-loop .before .before .before .before .before .before .before .before .before in
+    let W = at-loop .loop .inv in
+    record {
+      given = start .pre .given;
+      first = c .before .before .before .loop-test .taken;
+      last = omega (arith, W .most, start .pre .last);
+      long = W .long ∙ start .pre .long;
+      wholes = at-loop .before .before .before .wholes .ensures;
+      long-diagonal = W .long-diagonal;
+      most = W .small;
+    }
+
+index-requires : tie.Need-index-requires Inv-loop μ-loop
+index-requires c κs = search needs
+
+mul-diagonal : tie.Need-mul-diagonal Inv-loop μ-loop
+mul-diagonal c = search needs
+
+array-write-diagonal : tie.Need-array-write-diagonal Inv-loop μ-loop
+array-write-diagonal c = search needs
+
+sub-i : tie.Need-sub-i Inv-loop μ-loop
+sub-i c = search needs
+
+loop-less : tie.Need-loop-less Inv-loop μ-loop
+loop-less c = search needs
+
+loop-again : tie.Need-loop-again Inv-loop μ-loop
+loop-again c =
+    let called = c .before .before .before in
+    let turn = called .before .before .before .before in
+    let start = turn .before .before .before .before .before .before .before .before .before .before in
+    worked-back _ _ _ _ _ _ _ _ (turn .before .loop .inv) (start .pre .given .run .trains) (turn .loop-test .taken)
+    (start .pre .last) (called .work-row .ensures) _ (c .index .ensures)
+
+same-length : tie.Need-same-length Inv-loop μ-loop
+same-length c = c .before .loop .inv .long
+
+returns : tie.Need-returns Inv-loop μ-loop
+returns c = worked-end _ _ _ _ _ _ (c .before .loop .inv) (omega arith)
+
+pub work-rows-spec : {M : Type 1} → statement M
+work-rows-spec =
+    tie.close
+    (tie.spec
+    Inv-loop
+    μ-loop
+    wholes-requires
+    diagonal-after-requires
+    loop-holds
+    slice-aggregate-work-row
+    slice-aggregate-work-row-2
+    work-row-requires
+    index-requires
+    mul-diagonal
+    array-write-diagonal
+    sub-i
+    loop-less
+    loop-again
+    same-length
+    returns)

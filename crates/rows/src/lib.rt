@@ -1,0 +1,184 @@
+// Rows of cells, each from the later rows as they stand.
+ghost use mathlib.Core.Path.{_≡_};
+ghost use Prim.Native.Nat.{_*_, _≤_};
+ghost use lib.ListN.{length};
+ghost use Rattle.line.specs.Cells.{lesser};
+ghost use Rattle.line.specs.Ranges.{latest, everyone, limit};
+ghost use Rattle.cells.specs.Place.{RowsWorked};
+ghost use Rattle.cells.specs.Given.{RunningGiven, PeriodGiven, SumsGiven, bookIn};
+ghost use Rattle.cells.specs.Summed.{Wholes};
+ghost use Rattle.rows.specs.Steps.{Stays, Goes, Diagonal, RowRoom, RowFilled};
+ghost use Rattle.rows.specs.Steps.{RowGiven, RowWorked, RowsGiven};
+use cells::place::cell_at;
+use cells::place::place;
+use cells::sums::leaving;
+use cells::sums::wholes;
+use cells::times::arrives;
+use cells::times::cost;
+use cells::times::excess_at;
+use cells::times::period_at;
+use rail::Train;
+
+// The excess at each station of a run, and what keep costs there but for the cell after it.
+pub struct Staying {
+    pub excess: [u64; 64],
+    pub keep: [u64; 64],
+}
+
+fn stay_along(first: Train, m: u32, slack: &[u32], source: &[u32], sums: &[u32]) -> Staying
+    requires { ⌜ (1 ≤ first .0) × (first .0 ≤ m) × RunningGiven m (now slack) (now source) ×
+        SumsGiven m (now sums) ⌝ }
+    ensures { λ r. ⌜ Stays m (first .0) (now (slack .entry)) (now (source .entry))
+        (now (sums .entry)) (r .excess) (r .keep) ⌝ }
+{
+    let mut excess = [0u64; 64];
+    let mut keep = [0u64; 64];
+    let mut late: u64 = 0;
+    let mut i = first.0;
+    while i <= m {
+        let train = Train(i);
+        let over = excess_at(slack, train.leaves(), late);
+        late = arrives(source, train, over);
+        let k = train.index();
+        excess[k] = over;
+        keep[k] = cost(leaving(sums, m, first, train), late);
+        i += 1;
+    }
+    Staying { excess, keep }
+}
+
+// By station of a run after its first: what go costs there but for the cell on the diagonal.
+fn go_along(first: Train, m: u32, period: &[u32], sums: &[u32], whole: &[u64]) -> [u64; 64]
+    requires { ⌜ (1 ≤ first .0) × (first .0 ≤ m) × PeriodGiven m (now period) ×
+        SumsGiven m (now sums) × Wholes m (now sums) (now whole) ⌝ }
+    ensures { λ r. ⌜ Goes m (first .0) (now (period .entry)) (now (sums .entry)) r ⌝ }
+{
+    let mut go = [0u64; 64];
+    let mut sum: u64 = 0;
+    let mut i = m;
+    while first.0 < i {
+        let train = Train(i);
+        let k = train.index();
+        sum += leaving(sums, m, first, train);
+        go[k] = cost(sum - whole[k], period_at(period, train.leaves()));
+        i -= 1;
+    }
+    go
+}
+
+// The lesser of the two choices; without an excess only keep is one.
+fn lesser(excess: u64, keep: u64, go: u64) -> u64
+    ensures { λ r. ⌜ (r ≡ lesser excess keep go) × (r ≤ keep) ⌝ }
+{
+    if excess == 0 {
+        return keep;
+    }
+    if go < keep { go } else { keep }
+}
+
+// The row of `first`, from its last cell back to its first.
+fn fill_row(
+    row: &mut [u64],
+    first: Train,
+    excess: &[u64],
+    keep: &[u64],
+    go: &[u64],
+    diagonal: &[u64],
+)
+    requires { ⌜ RowRoom (first .0) (length (now row)) (now excess) (now keep) (now go)
+        (now diagonal) ⌝ }
+    ensures { λ _. ⌜ RowFilled (first .0) (now (excess .entry)) (now (keep .entry))
+        (now (go .entry)) (now (diagonal .entry)) (now (row .entry)) (now (row .exit)) ⌝ }
+{
+    let start = first.index();
+    let mut next: u64 = 0;
+    let mut j = row.len();
+    while 0 < j {
+        j -= 1;
+        let k = start + j;
+        next = lesser(excess[k], keep[k] + next, go[k] + diagonal[k]);
+        row[j] = next;
+    }
+}
+
+// The first cells of the rows after `last`.
+fn diagonal_after(cells: &[u64], m: u32, last: Train) -> [u64; 64]
+    requires { ⌜ (last .0 ≤ m) × (m ≤ 64) × (length (now cells) ≡ 4096) ⌝ }
+    ensures { λ r. ⌜ Diagonal m (last .0) (now (cells .entry)) r ⌝ }
+{
+    let mut diagonal = [0u64; 64];
+    let mut i = last.0 + 1;
+    while i <= m {
+        let train = Train(i);
+        diagonal[train.index()] = cell_at(cells, m, train, train.leaves());
+        i += 1;
+    }
+    diagonal
+}
+
+// One row, a part of the cells of its own; its first cell.
+fn work_row(
+    cells: &mut [u64],
+    m: u32,
+    first: Train,
+    slack: &[u32],
+    source: &[u32],
+    period: &[u32],
+    sums: &[u32],
+    whole: &[u64],
+    diagonal: &[u64],
+) -> u64
+    requires { ⌜ RowGiven m (first .0) (now cells) (now slack) (now source) (now period) (now sums)
+        (now whole) (now diagonal) ⌝ }
+    ensures { λ r. ⌜ RowWorked
+        (bookIn m (now (slack .entry)) (now (source .entry)) (now (period .entry))
+        (now (sums .entry)))
+        (first .0) (now (diagonal .entry)) (now (cells .entry)) (now (cells .exit)) r ⌝ }
+{
+    let stay = stay_along(first, m, slack, source, sums);
+    let excess = stay.excess;
+    let keep = stay.keep;
+    let go = go_along(first, m, period, sums, whole);
+    let a = place(m, first, first.leaves());
+    let b = a + (m + 1 - first.0) as usize;
+    fill_row(&mut cells[a..b], first, &excess, &keep, &go, diagonal);
+    cells[a]
+}
+
+// The rows of `last` and of the trains before it, from the later rows as they stand.
+pub fn work_rows(
+    cells: &mut [u64],
+    m: u32,
+    last: Train,
+    slack: &[u32],
+    source: &[u32],
+    period: &[u32],
+    sums: &[u32],
+)
+    requires { ⌜ RowsGiven m (last .0) (now cells) (now slack) (now source) (now period)
+        (now sums) ⌝ }
+    ensures { λ _. ⌜ RowsWorked
+        (bookIn m (now (slack .entry)) (now (source .entry)) (now (period .entry))
+        (now (sums .entry)))
+        (last .0) (now (cells .entry)) (now (cells .exit)) ⌝ }
+{
+    let whole = wholes(sums, m);
+    let mut diagonal = diagonal_after(cells, m, last);
+    let mut i = last.0;
+    while 0 < i {
+        let train = Train(i);
+        let cell = work_row(
+            cells,
+            m,
+            train,
+            slack,
+            source,
+            period,
+            sums,
+            &whole,
+            &diagonal,
+        );
+        diagonal[train.index()] = cell;
+        i -= 1;
+    }
+}
