@@ -1,10 +1,10 @@
 -- Laws of a list by train or station, counted from 1, that a loop fills in either direction.
 --   Held xs f a b   entries a to b - 1 of xs are those of f
 -- Assumes nothing.
-use mathlib.Core.Path.{_≡_, subst, ap, _∙_}
+use mathlib.Core.Path.{_≡_, ap, _∙_}
 use mathlib.Core.List.{List}
 use mathlib.Core.Logic.{inl, inr}
-use Prim.Native.Nat.{ℕ, _+_, _-_, _≤_, _<_}
+use Prim.Native.Nat.{ℕ, _-_, _≤_, _<_}
 use native.Mathlib.Omega.{arith}
 use lib.ListN.{length, getD, set}
 use lib.Seq.{getD-set-same, getD-set-other}

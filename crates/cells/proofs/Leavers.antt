@@ -1,9 +1,8 @@
 -- Laws of the sums in a square: those who leave, those who board at k or later and leave after l, those aboard.
 -- Assumes nothing.
-use mathlib.Core.Path.{_≡_, refl, ap, sym, _∙_}
+use mathlib.Core.Path.{_≡_, _∙_}
 use mathlib.Core.List.{List}
 use Prim.Native.Nat.{ℕ, _+_, _-_, _≤_, _<_}
-use native.Mathlib.Nat.{le-trans}
 use native.Mathlib.Omega.{arith}
 use Rattle.line.specs.Ranges.{everyone}
 use Rattle.line.proofs.Sums.{over, sum-over, over-none, over-first, over-split, over-same, over-add}

@@ -1,16 +1,15 @@
 -- The sums of a line, column by column: in the column of train l each place is the one below it and one pair more.
 --   ColumnTo m passengers l before sums n k   the places (k + 1, l) to (l, l) are summed, the last sum being n
 -- Assumes nothing.
-use mathlib.Core.Path.{_≡_, refl, ap, sym, _∙_}
+use mathlib.Core.Path.{_≡_, refl, sym, _∙_}
 use mathlib.Core.List.{List}
 use mathlib.Core.Logic.{inl, inr}
 use Prim.Native.Nat.{ℕ, _+_, _-_, _*_, _≤_, _<_}
 use native.Mathlib.Nat.{le-refl}
 use native.Mathlib.Omega.{arith}
-use lib.ListN.{length, getD, set, length-set}
+use lib.ListN.{length, set, length-set}
 use lib.Seq.{getD-set-same, getD-set-other}
 use Rattle.lists.proofs.Order.{same-or-not}
-use Rattle.line.specs.Sum.{sum_from_to_}
 use Rattle.line.proofs.Sums.{over, sum-over, over-none, over-first}
 use Rattle.cells.specs.Place.{square}
 use Rattle.cells.specs.Given.{leavingIn}

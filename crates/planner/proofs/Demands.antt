@@ -35,13 +35,14 @@ use Rattle.meaning.proofs.RoundTrip.{read-then-write, write-then-read, equal-fi
 use Rattle.cells.proofs.Places.{table-in}
 use Rattle.cells.specs.Shown.{byteOf, shown}
 use Rattle.cells.proofs.Shown.{shown-length, shown-same}
-use Rattle.planner.specs.LineOf.{lineOf}
+use Rattle.settle.specs.LineOf.{lineOf}
 use Rattle.planner.specs.declared.Answer.{Answer}
-use Rattle.planner.specs.Plan.{answerNumber, answerTotal, Buffers, RightLengths, buffersVerdict, planVerdict}
+use Rattle.settle.specs.Buffers.{Buffers, RightLengths}
+use Rattle.planner.specs.Plan.{answerNumber, answerTotal, buffersVerdict, planVerdict}
 use Rattle.planner.specs.Plan.{Planned, Plan}
 use Rattle.planner.specs.Demands.{SameLengths, Blanked, RefusedBy, Answered, Demand1, policyIn}
 use Rattle.planner.specs.Demands.{LeastPlan, Demand2}
-use Rattle.planner.proofs.Lines.{line-in-range}
+use Rattle.settle.proofs.Lines.{line-in-range}
 use Rattle.planner.proofs.Refusals.{right-of-fine, plan-of-sheet, plan-of-buffers, accepted-of-plan}
 use Rattle.planner.proofs.Possible.{plan-possible}
 

@@ -1,8 +1,5 @@
-pub mod Lines
-pub mod Settles
-pub mod Joining
-pub mod Taken
 pub mod Outcome
+pub mod Taken
 pub mod Refusals
 pub mod Possible
 pub mod Demands

@@ -18,11 +18,12 @@ use Rattle.sheet.specs.Numbers.{numbersOf}
 use Rattle.sheet.proofs.Facts.{accepted-of-fine}
 use Rattle.cells.proofs.Written.{rows-worked-one}
 use Rattle.cells.proofs.Shown.{shown-same}
-use Rattle.planner.specs.LineOf.{lineOf}
+use Rattle.settle.specs.LineOf.{lineOf}
 use Rattle.planner.specs.declared.Answer.{Answer}
 use Rattle.planner.specs.declared.Answer.the-variants.{Accepted}
-use Rattle.planner.specs.Plan.{answerNumber, answerPlace, Buffers, planVerdict, Planned, RefusedFor, Plan}
-use Rattle.planner.proofs.Lines.{line-in-range}
+use Rattle.settle.specs.Buffers.{Buffers}
+use Rattle.planner.specs.Plan.{answerNumber, answerPlace, planVerdict, Planned, RefusedFor, Plan}
+use Rattle.settle.proofs.Lines.{line-in-range}
 
 -- ---- what plan leaves
 

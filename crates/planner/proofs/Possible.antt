@@ -27,9 +27,10 @@ use Rattle.cells.specs.Place.{place, tableOf, InUse, RowsWorked}
 use Rattle.cells.specs.Shown.{shown}
 use Rattle.cells.proofs.Places.{place-lt, place-one, table-in, table-past}
 use Rattle.cells.proofs.Written.{in-use-or-not}
-use Rattle.planner.specs.LineOf.{lineOf}
+use Rattle.settle.specs.LineOf.{lineOf}
 use Rattle.planner.specs.declared.Answer.the-variants.{Accepted, Refused as AnswerRefused}
-use Rattle.planner.specs.Plan.{Buffers, buffers, planVerdict}
+use Rattle.settle.specs.Buffers.{Buffers, buffers}
+use Rattle.planner.specs.Plan.{planVerdict}
 use Rattle.planner.specs.Demands.{Possible}
 use Rattle.planner.proofs.Refusals.{accepted-of-plan}
 use Rattle.planner.proofs.Outcome.{plan-accepted, plan-refused}

@@ -11,7 +11,8 @@ use Rattle.rail.proofs.Refusing.{only-fine, only-unless, only-then}
 use Rattle.sheet.specs.Checks.{sheetVerdict}
 use Rattle.sheet.specs.Accepted.{AcceptedSheet}
 use Rattle.sheet.proofs.Facts.{accepted-of-fine}
-use Rattle.planner.specs.Plan.{Buffers, RightLengths, lengthsVerdict, buffersVerdict, planVerdict}
+use Rattle.settle.specs.Buffers.{Buffers, RightLengths}
+use Rattle.planner.specs.Plan.{lengthsVerdict, buffersVerdict, planVerdict}
 
 -- ---- the buffers
 

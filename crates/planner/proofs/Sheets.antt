@@ -36,10 +36,11 @@ use Rattle.sheet.specs.SheetA.{sheetA}
 use Rattle.sheet.proofs.Sample.{sheet-a-accepted}
 use Rattle.cells.specs.Place.{place, tableOf}
 use Rattle.cells.specs.Shown.{byteOf, shown}
-use Rattle.planner.specs.LineOf.{lineOf}
+use Rattle.settle.specs.LineOf.{lineOf}
 use Rattle.planner.specs.declared.Answer.{Answer}
 use Rattle.planner.specs.declared.Answer.the-variants.{Accepted}
-use Rattle.planner.specs.Plan.{Buffers, RightLengths, Planned, Plan}
+use Rattle.settle.specs.Buffers.{Buffers, RightLengths}
+use Rattle.planner.specs.Plan.{Planned, Plan}
 use Rattle.planner.specs.Sheets.{sheetB, sheetB13, Leaves, AnswersA, decisionsB, rowsB, AnswersB}
 use Rattle.planner.specs.Sheets.{decisionsB13, rowsB13, AnswersB13}
 use Rattle.planner.proofs.Refusals.{plan-of-sheet}

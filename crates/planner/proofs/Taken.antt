@@ -1,11 +1,11 @@
 -- From a sheet taken apart to its plan: the columns are sound and hold the sheet's numbers, and what is settled on them
 -- is a plan of the sheet's line. And what a refusal leaves.
 -- Assumes nothing.
-use mathlib.Core.Path.{_≡_, refl, ap, sym, subst, _∙_}
+use mathlib.Core.Path.{_≡_, ap, sym, subst, _∙_}
 use mathlib.Core.Bool.{false}
 use mathlib.Core.List.{List}
 use mathlib.Core.Logic.{_⊎_, inl, inr}
-use Prim.Native.Nat.{ℕ, _≤_}
+use Prim.Native.Nat.{ℕ}
 use native.Mathlib.Omega.{arith}
 use lib.ListN.{length, replicate}
 use Rattle.lists.specs.Choice.{if_then_else_}
@@ -14,9 +14,10 @@ use Rattle.lists.proofs.Run.{padded-length}
 use Rattle.rail.specs.declared.Refusal.{Refusal}
 use Rattle.rail.specs.declared.Verdict.the-variants.{Fine}
 use Rattle.rail.specs.Refusal.{blanksOf}
-use Rattle.line.specs.Line.{lineFrom}
-use Rattle.line.specs.Cells.{bookOf}
+use Rattle.line.specs.Line.{Line, lineFrom}
+use Rattle.line.specs.Cells.{bookOf, decide}
 use Rattle.line.proofs.Alike.{books-of-lines}
+use Rattle.line.proofs.Worked.{decided-total, decided-is-plan}
 use Rattle.sheet.specs.Format.{trainsOf, periodOf, bytesOf}
 use Rattle.sheet.specs.Numbers.{Lists, lists, numbersOf, numbersIn}
 use Rattle.sheet.specs.Checks.{sheetVerdict}
@@ -30,15 +31,30 @@ use Rattle.reader.specs.Decode.{ColumnsOf, Decoding}
 use Rattle.reader.proofs.Answers.{accepted-fine}
 use Rattle.reader.proofs.Outcome.{decoding-columns}
 use Rattle.reader.proofs.Held.{columns-same}
-use Rattle.planner.specs.LineOf.{lineOf}
+use Rattle.cells.specs.Place.{tableOf}
+use Rattle.settle.specs.LineOf.{lineOf}
 use Rattle.planner.specs.declared.Answer.{Answer}
 use Rattle.planner.specs.declared.Answer.the-variants.{Accepted, Refused as AnswerRefused}
-use Rattle.planner.specs.Plan.{Buffers, RightLengths, Planned, RefusedFor}
-use Rattle.planner.specs.Settled.{Settled, Sound}
-use Rattle.planner.proofs.Lines.{lines-of-same}
-use Rattle.planner.proofs.Settles.{settled-alike, settled-planned}
+use Rattle.settle.specs.Buffers.{Buffers, RightLengths}
+use Rattle.planner.specs.Plan.{Planned, RefusedFor}
+use Rattle.settle.specs.Settled.{Settled, Sound}
+use Rattle.settle.proofs.Lines.{lines-of-same}
+use Rattle.settle.proofs.Settles.{settled-alike}
 
 -- ---- accepted
+
+settled-planned : (L : Line) (before after : Buffers) (n : ℕ) → Settled (bookOf L) (L .trains) before after n
+    → Planned L before after (Accepted n)
+settled-planned L before after n S =
+    let worked = S .cells .worked in
+    record {
+      policy = decide (bookOf L) (tableOf (L .trains) (after .cells));
+      plan = decided-is-plan L _ _ worked;
+      answer = ap Accepted (S .total ∙ sym (decided-total L _ _ worked));
+      decisions = S .decisions;
+      delays = S .delays;
+      cells = S .cells;
+    }
 
 abbrev pub listsOf : Columns → Lists
 listsOf c = lists (c .departures) (c .driving) (c .delays) (c .passengers)

@@ -30,9 +30,10 @@ use Rattle.sheet.specs.Accepted.{AcceptedSheet}
 use Rattle.meaning.specs.OneMeaning.{ReadThenWrite, WriteThenRead, EqualFields}
 use Rattle.cells.specs.Place.{place, InUse}
 use Rattle.cells.specs.Shown.{shown}
-use Rattle.planner.specs.LineOf.{lineOf}
+use Rattle.settle.specs.LineOf.{lineOf}
 use Rattle.planner.specs.declared.Answer.{Answer}
-use Rattle.planner.specs.Plan.{answerNumber, answerPlace, answerTotal, Buffers, RightLengths, planVerdict, Plan}
+use Rattle.settle.specs.Buffers.{Buffers, RightLengths}
+use Rattle.planner.specs.Plan.{answerNumber, answerPlace, answerTotal, planVerdict, Plan}
 
 -- ---- demand 1
 

@@ -1,7 +1,5 @@
 -- What plan returns and what it leaves in the lent buffers. Document 01, "Four operations", and "Numbers of refusal".
 --   answerNumber a, answerPlace a, answerTotal a     what the paper has the answer a carry
---   Buffers                       the working cells, the decision bytes and the delays, as they are lent or left
---   RightLengths b                the buffers have the lengths that document 01 states
 --   planVerdict s b               all checks of plan, in their order, for the sheet s and the buffers b
 --   Planned L before after a      an accepted plan of the line L
 --   RefusedFor r before after a   what a refusal leaves
@@ -27,7 +25,8 @@ use Rattle.sheet.specs.Numbers.{numbersOf}
 use Rattle.sheet.specs.Checks.{sheetVerdict}
 use Rattle.cells.specs.Place.{RowsWorked}
 use Rattle.cells.specs.Shown.{shown}
-use Rattle.planner.specs.LineOf.{lineOf}
+use Rattle.settle.specs.LineOf.{lineOf}
+use Rattle.settle.specs.Buffers.{Buffers}
 use Rattle.planner.specs.declared.Answer.{Answer}
 use Rattle.planner.specs.declared.Answer.the-variants.{Accepted, Refused as AnswerRefused}
 
@@ -44,20 +43,7 @@ abbrev pub answerTotal : Answer → ℕ
 answerTotal (Accepted n) = n
 answerTotal (AnswerRefused r) = 0
 
-pub record Buffers : Type 0 where
-  pub cells : List ℕ
-  pub decisions : List ℕ
-  pub delays : List ℕ
-
-abbrev pub buffers : List ℕ → List ℕ → List ℕ → Buffers
-buffers c d y = record { cells = c; decisions = d; delays = y }
-
 -- 4,096 working cells, 64 decision bytes, 64 delays
-pub record RightLengths (b : Buffers) : Type 0 where
-  pub cells : length (b .cells) ≡ 4096
-  pub decisions : length (b .decisions) ≡ 64
-  pub delays : length (b .delays) ≡ 64
-
 unfoldable pub lengthsVerdict : ℕ → ℕ → ℕ → Verdict
 lengthsVerdict cells decisions delays =
     (refuse BufferLength unless cells is 4096)

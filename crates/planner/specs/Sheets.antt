@@ -16,7 +16,8 @@ use Rattle.sheet.specs.SheetA.{sheetA}
 use Rattle.cells.specs.Place.{place}
 use Rattle.planner.specs.declared.Answer.{Answer}
 use Rattle.planner.specs.declared.Answer.the-variants.{Accepted}
-use Rattle.planner.specs.Plan.{Buffers, RightLengths, Plan}
+use Rattle.settle.specs.Buffers.{Buffers, RightLengths}
+use Rattle.planner.specs.Plan.{Plan}
 
 -- m 3, T 10; departures 10, 30, 55; driving 15, 20, 12; delays 9, 3, 0; passengers 1-2: 4, 1-3: 6, 1-4: 5, 2-3: 10,
 -- 2-4: 2, 3-4: 20

@@ -15,7 +15,8 @@ use Rattle.line.specs.Policy.{Keep}
 use Rattle.cells.specs.Shown.{shown}
 use Rattle.planner.specs.declared.Answer.{Answer}
 use Rattle.planner.specs.declared.Answer.the-variants.{Refused as AnswerRefused}
-use Rattle.planner.specs.Plan.{Buffers, RightLengths, Plan}
+use Rattle.settle.specs.Buffers.{Buffers, RightLengths}
+use Rattle.planner.specs.Plan.{Plan}
 use Rattle.planner.specs.Sheets.{sheetB, sheetB13, decisionsB}
 
 abbrev pub RefusesAll : Type 0

@@ -1,14 +1,12 @@
 // Plan: the policy of least total for a sheet, its delays and its total, or a refusal by number.
 // `plan` has no `requires`: any sheet of bytes and any buffers get an answer.
-mod settling;
-
 ghost use mathlib.Core.Path.{_≡_};
 ghost use lib.ListN.{length, replicate};
 ghost use Rattle.lists.specs.Choice.{if_then_else_};
 ghost use Rattle.rail.specs.Refusal.{blanksOf};
-ghost use Rattle.planner.specs.Plan.{answerNumber, answerPlace, answerTotal, buffers};
+ghost use Rattle.settle.specs.Buffers.{buffers};
+ghost use Rattle.planner.specs.Plan.{answerNumber, answerPlace, answerTotal};
 ghost use Rattle.planner.specs.Plan.{lengthsVerdict, Plan};
-use crate::settling::settle_numbers;
 use lists::fill_u8;
 use lists::fill_u32;
 use rail::Refusal;
@@ -16,6 +14,7 @@ use rail::Train;
 use rail::Verdict;
 use reader::Reading;
 use reader::decode;
+use settle::settle_numbers;
 
 // What plan answers: the total, or why not.
 pub enum Answer {

@@ -1,7 +1,7 @@
 -- A row of cells filled from its last cell back. Places of the row count from 0; its cell j is that of station s + j + 1.
 --   FilledFrom   the cells from j on are filled, the first of them being `next`
 -- Assumes nothing.
-use mathlib.Core.Path.{_≡_, refl, ap, sym, _∙_}
+use mathlib.Core.Path.{_≡_, ap, sym, _∙_}
 use mathlib.Core.List.{List}
 use mathlib.Core.Logic.{inl, inr}
 use Prim.Native.Nat.{ℕ, _+_, _-_, _*_, _≤_, _<_}
@@ -9,12 +9,10 @@ use native.Mathlib.Nat.{le-refl}
 use native.Mathlib.Omega.{arith}
 use lib.ListN.{length, getD, set, length-set, List·getD-eq-default}
 use lib.Seq.{getD-set-same, getD-set-other}
-use Rattle.lists.specs.Run.{nth}
 use Rattle.lists.proofs.Order.{same-or-not}
 use Rattle.line.specs.Cells.{lesser}
 use Rattle.line.specs.Ranges.{limit}
 use Rattle.rows.specs.Steps.{ceiling, RowRoom, RowFilled}
-use Rattle.cells.proofs.Held.{nth-index}
 
 -- what the code reads at place s + j
 pub room-at : (k n : ℕ) (excess keep go diagonal : List ℕ) → RowRoom k n excess keep go diagonal → (s : ℕ) → s ≡ k - 1

@@ -2,7 +2,7 @@
 --   StayedTo   the stations from k to i - 1 are done, train i - 1 having arrived late by `late`
 --   GoneTo     the stations after i are done, `left` being all who board at k or later and leave a train after i
 -- Assumes nothing.
-use mathlib.Core.Path.{_≡_, refl, ap, sym, _∙_}
+use mathlib.Core.Path.{_≡_, ap, sym, _∙_}
 use mathlib.Core.List.{List}
 use Prim.Native.Nat.{ℕ, _+_, _-_, _*_, _≤_, _<_}
 use native.Mathlib.Nat.{le-refl, le-trans, le-of-eq, mul-comm}

@@ -13,7 +13,7 @@ use Rattle.lists.specs.Run.{nth}
 use Rattle.lists.specs.Splice.{splice}
 use Rattle.lists.proofs.Order.{lt-or-ge, same-or-not}
 use Rattle.lists.proofs.Splice.{length-splice, splice-before, splice-in, splice-after}
-use Rattle.line.specs.Cells.{Table, Book, excessOn, keepCost, goCost, lesser, cellBy, Worked}
+use Rattle.line.specs.Cells.{Table, Book, excessOn, keepCost, goCost, lesser, cellBy}
 use Rattle.line.specs.Ranges.{limit}
 use Rattle.line.proofs.Along.{excess-on-start}
 use Rattle.line.proofs.Alike.{cell-by-alike, books-alike-refl}

@@ -1,9 +1,8 @@
 // Rows of cells, each from the later rows as they stand.
 ghost use mathlib.Core.Path.{_≡_};
-ghost use Prim.Native.Nat.{_*_, _≤_};
+ghost use Prim.Native.Nat.{_≤_};
 ghost use lib.ListN.{length};
 ghost use Rattle.line.specs.Cells.{lesser};
-ghost use Rattle.line.specs.Ranges.{latest, everyone, limit};
 ghost use Rattle.cells.specs.Place.{RowsWorked};
 ghost use Rattle.cells.specs.Given.{RunningGiven, PeriodGiven, SumsGiven, bookIn};
 ghost use Rattle.cells.specs.Summed.{Wholes};

@@ -3,7 +3,6 @@
 -- Assumes nothing.
 use mathlib.Core.Path.{_≡_, refl, ap, ap₂, sym, _∙_}
 use mathlib.Core.List.{List}
-use mathlib.Core.Logic.{inl, inr}
 use Prim.Native.Nat.{ℕ, _+_, _-_, _*_, _≤_, _<_}
 use native.Mathlib.Nat.{le-refl, le-trans, le-of-eq}
 use native.Mathlib.Omega.{arith}
@@ -12,7 +11,6 @@ use Rattle.lists.specs.Choice.{ifBelow}
 use Rattle.lists.specs.Run.{nth, padded}
 use Rattle.lists.specs.Filled.{Filled}
 use Rattle.lists.proofs.Choice.{below-yes, below-no}
-use Rattle.lists.proofs.Order.{lt-or-ge}
 use Rattle.lists.proofs.Run.{padded-ext, padded-past}
 use Rattle.lists.proofs.Fill.{filled-none, filled-next, filled-padded}
 use Rattle.line.specs.Line.{Running}

@@ -5,7 +5,7 @@ ghost use lib.ListN.{length};
 ghost use Rattle.lists.specs.Run.{nth, padded};
 ghost use Rattle.line.specs.Policy.{arrival};
 ghost use Rattle.line.specs.Cells.{prefer, decide};
-ghost use Rattle.line.specs.Ranges.{latest, everyone, limit};
+ghost use Rattle.line.specs.Ranges.{latest};
 ghost use Rattle.cells.specs.Place.{tableOf};
 ghost use Rattle.cells.specs.Given.{leavingIn, aboardIn, runningIn, bookIn, SumsGiven};
 ghost use Rattle.cells.specs.Given.{PeriodGiven, CellsInRange};

@@ -1,16 +1,16 @@
 -- `plan` meets its contract: the lengths, the sheet, then the work on its numbers.
 -- Assumes nothing.
 use borrow.Author.Needs.{needs}
-use mathlib.Core.Path.{_≡_, refl, sym, ap, _∙_}
+use mathlib.Core.Path.{refl, sym, ap, _∙_}
 use mathlib.Core.Logic.{inl, inr}
 use native.Mathlib.Nat.{le-refl}
 use native.Mathlib.Omega.{arith}
-use Rattle.rail.specs.declared.Verdict.the-variants.{Refused}
 use Rattle.rail.specs.Refusal.{blanksOf}
 use Rattle.rail.proofs.Checks.{then-stop, then-pass}
 use Rattle.sheet.specs.Checks.{sheetVerdict}
 use Rattle.reader.proofs.Answers.{refused-verdict}
-use Rattle.planner.specs.Plan.{Buffers, buffers, RightLengths, planVerdict}
+use Rattle.settle.specs.Buffers.{Buffers, buffers, RightLengths}
+use Rattle.planner.specs.Plan.{planVerdict}
 use Rattle.planner.proofs.Refusals.{right-of-fine, fine-of-right, buffers-refusal}
 use Rattle.planner.proofs.Taken.{taken-fine, taken-sound, taken-planned, refused-for}
 use Rattle.planner.proofs.Outcome.{plan-accepted, plan-refused}

@@ -1,9 +1,8 @@
 -- `sums::pair` meets its contract: the pair has a field.
 -- Assumes nothing.
 use borrow.Author.Needs.{needs}
-use mathlib.Core.Path.{_≡_, ap, _∙_}
+use mathlib.Core.Path.{ap}
 use Prim.Native.Nat.{ℕ, _-_}
-use native.Mathlib.Omega.{arith}
 use lib.ListN.{getD}
 use Rattle.cells.specs.Summed.{pairIn}
 use Rattle.cells.proofs.sums.pair.Statement.{statement}

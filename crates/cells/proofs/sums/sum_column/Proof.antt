@@ -1,7 +1,7 @@
 -- `sums::sum_column` meets its contract. Invariant: the places of the column from k + 1 on are summed. Measure: k.
 -- Assumes nothing.
 use borrow.Author.Needs.{needs}
-use mathlib.Core.Path.{_≡_, ap, _∙_}
+use mathlib.Core.Path.{ap, _∙_}
 use Prim.Native.Nat.{_≤_}
 use native.Mathlib.Omega.{arith}
 use Rattle.cells.specs.Summed.{pairIn}

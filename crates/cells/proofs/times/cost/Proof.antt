@@ -1,6 +1,5 @@
 -- `times::cost` meets its contract: the product is at most the limit.
 -- Assumes nothing.
-use borrow.Author.Needs.{needs}
 use mathlib.Core.Path.{refl}
 use native.Mathlib.Nat.{mul-le-mul}
 use native.Mathlib.Omega.{arith}

@@ -1,4 +1,4 @@
--- `settling::slack` meets its contract: the slack is 0 or more.
+-- `slack` meets its contract: the slack is 0 or more.
 -- Assumes nothing.
 use borrow.Author.Needs.{needs}
 use mathlib.Core.Path.{_≡_, refl}
@@ -7,8 +7,8 @@ use native.Mathlib.Omega.{arith}
 use lib.ListN.{getD}
 use Rattle.lists.specs.Run.{nth}
 use Rattle.cells.proofs.Held.{nth-index}
-use Rattle.planner.proofs.settling.slack.Statement.{statement}
-use Rattle.planner.proofs.settling.slack.Tie as tie
+use Rattle.settle.proofs.slack.Statement.{statement}
+use Rattle.settle.proofs.slack.Tie as tie
 
 index-requires : tie.Need-index-requires
 index-requires c κs = search needs

@@ -12,7 +12,7 @@ use Rattle.sheet.specs.Numbers.{Numbers}
 use Rattle.sheet.specs.Accepted.{InRange, SameNumbers}
 use Rattle.sheet.specs.Pairs.{IsPair, fieldOfPair, passengersOfPair}
 use Rattle.sheet.proofs.Pairs.{pair-has-field}
-use Rattle.planner.specs.LineOf.{lineOf}
+use Rattle.settle.specs.LineOf.{lineOf}
 
 pair : (m i j : ℕ) → 1 ≤ i → i < j → j ≤ m + 1 → IsPair m i j
 pair m i j a b c = record { least = a; apart = b; most = c }

@@ -13,7 +13,7 @@ use Rattle.cells.specs.Place.{tableOf, RowsWorked}
 use Rattle.cells.specs.Shown.{shown}
 use Rattle.sheet.specs.Numbers.{Lists, numbersIn}
 use Rattle.sheet.specs.Accepted.{Lengths, InRange}
-use Rattle.planner.specs.Plan.{Buffers, RightLengths}
+use Rattle.settle.specs.Buffers.{Buffers, RightLengths}
 
 pub record Settled (B : Book) (t : ℕ) (before after : Buffers) (n : ℕ) : Type 0 where
   pub cells : RowsWorked B t (before .cells) (after .cells)

@@ -1,7 +1,7 @@
--- `settling::settle` meets its contract: the rows, what is read off them, the first cell.
+-- `settle` meets its contract: the rows, what is read off them, the first cell.
 -- Assumes nothing.
 use borrow.Author.Needs.{needs}
-use mathlib.Core.Path.{_≡_, sym, ap, _∙_}
+use mathlib.Core.Path.{sym, ap, _∙_}
 use native.Mathlib.Nat.{le-refl}
 use native.Mathlib.Omega.{arith}
 use lib.ListN.{length}
@@ -9,8 +9,8 @@ use Rattle.lists.proofs.Run.{padded-length}
 use Rattle.cells.specs.Place.{tableOf}
 use Rattle.cells.proofs.Bounded.{worked-in-range}
 use Rattle.cells.proofs.Shown.{shown-length}
-use Rattle.planner.proofs.settling.settle.Statement.{statement}
-use Rattle.planner.proofs.settling.settle.Tie as tie
+use Rattle.settle.proofs.settle.Statement.{statement}
+use Rattle.settle.proofs.settle.Tie as tie
 
 work-rows-requires : tie.Need-work-rows-requires
 work-rows-requires c κs =

@@ -1,16 +1,16 @@
 -- The lists that rows are worked from hold the line of the sheet's numbers: slack by station, the period everywhere, and
 -- the sums of those who leave.
 -- Assumes nothing.
-use mathlib.Core.Path.{_≡_, refl, ap, ap₂, sym, _∙_}
+use mathlib.Core.Path.{_≡_, refl, ap₂, sym, _∙_}
 use mathlib.Core.List.{List}
 use Prim.Native.Nat.{ℕ, _+_, _-_, _≤_, _<_}
-use native.Mathlib.Nat.{le-refl, le-trans, le-of-eq}
+use native.Mathlib.Nat.{le-trans, le-of-eq}
 use native.Mathlib.Omega.{arith}
-use lib.ListN.{length, replicate, length-replicate, getD-replicate}
+use lib.ListN.{replicate, length-replicate, getD-replicate}
 use Rattle.lists.specs.Run.{nth}
 use Rattle.lists.proofs.Choice.{below-yes}
-use Rattle.line.specs.Line.{Line, lineFrom}
-use Rattle.line.specs.Cells.{leaving, Book, bookOf}
+use Rattle.line.specs.Line.{lineFrom}
+use Rattle.line.specs.Cells.{leaving, bookOf}
 use Rattle.line.specs.Alike.{BooksAlike}
 use Rattle.line.specs.Ranges.{everyone}
 use Rattle.line.proofs.Sums.{sum-over, over-split, over-same}
@@ -22,9 +22,9 @@ use Rattle.sheet.specs.Checks.{earliestOf}
 use Rattle.sheet.proofs.Lengths.{pairs-le}
 use Rattle.cells.specs.Given.{leavingIn, boardedIn, aboardIn, bookIn, SumsGiven, Given}
 use Rattle.cells.specs.Summed.{pairIn, Fields, Summed}
-use Rattle.planner.specs.LineOf.{lineOf}
-use Rattle.planner.specs.Settled.{Sound, SlackGiven, Slacks}
-use Rattle.planner.proofs.Lines.{line-in-range}
+use Rattle.settle.specs.LineOf.{lineOf}
+use Rattle.settle.specs.Settled.{Sound, SlackGiven, Slacks}
+use Rattle.settle.proofs.Lines.{line-in-range}
 
 module _ (m T : ℕ) (L : Lists) (sound : Sound m T L) where
   abbrev N : Numbers

@@ -1,12 +1,10 @@
--- `settling::settle_numbers` meets its contract: the lists hold the line of the numbers.
+-- `settle_numbers` meets its contract: the lists hold the line of the numbers.
 -- Assumes nothing.
 use borrow.Author.Needs.{needs}
-use mathlib.Core.Path.{_≡_}
-use Rattle.cells.specs.Given.{bookIn}
-use Rattle.planner.proofs.Joining.{slack-given, fields-given, lists-given, lists-alike}
-use Rattle.planner.proofs.Settles.{settled-alike}
-use Rattle.planner.proofs.settling.settle_numbers.Statement.{statement}
-use Rattle.planner.proofs.settling.settle_numbers.Tie as tie
+use Rattle.settle.proofs.Joining.{slack-given, fields-given, lists-given, lists-alike}
+use Rattle.settle.proofs.Settles.{settled-alike}
+use Rattle.settle.proofs.settle_numbers.Statement.{statement}
+use Rattle.settle.proofs.settle_numbers.Tie as tie
 
 slice-aggregate-slacks : tie.Need-slice-aggregate-slacks
 slice-aggregate-slacks c = search needs

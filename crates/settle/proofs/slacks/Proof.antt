@@ -1,4 +1,4 @@
--- `settling::slacks` meets its contract. Invariant: the entries before i are held. Measure: the trains left.
+-- `slacks` meets its contract. Invariant: the entries before i are held. Measure: the trains left.
 -- Assumes nothing.
 use borrow.Author.Needs.{needs}
 use mathlib.Core.Path.{_≡_, refl}
@@ -7,8 +7,8 @@ use native.Mathlib.Omega.{arith}
 use lib.ListN.{length, length-set}
 use Rattle.lists.specs.Run.{nth}
 use Rattle.cells.proofs.Held.{Held, held-set}
-use Rattle.planner.proofs.settling.slacks.Statement.{statement}
-use Rattle.planner.proofs.settling.slacks.Tie as tie
+use Rattle.settle.proofs.slacks.Statement.{statement}
+use Rattle.settle.proofs.slacks.Tie as tie
 
 abbrev Inv-loop : tie.InvT-loop
 Inv-loop m departures driving list₀ i₀ list i =

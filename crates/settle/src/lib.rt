@@ -2,14 +2,13 @@
 // rows of cells, the decisions and delays read off them, and the total.
 ghost use mathlib.Core.Path.{_≡_};
 ghost use Prim.Native.Nat.{ℕ, _+_, _-_, _≤_};
-ghost use lib.ListN.{length};
 ghost use Rattle.lists.specs.Run.{nth};
 ghost use Rattle.line.specs.Cells.{bookOf};
 ghost use Rattle.cells.specs.Given.{bookIn, Given};
 ghost use Rattle.sheet.specs.Numbers.{lists, numbersIn};
-ghost use Rattle.planner.specs.LineOf.{lineOf};
-ghost use Rattle.planner.specs.Plan.{buffers};
-ghost use Rattle.planner.specs.Settled.{Settled, Workable, Sound, SlackGiven, Slacks};
+ghost use Rattle.settle.specs.LineOf.{lineOf};
+ghost use Rattle.settle.specs.Buffers.{buffers};
+ghost use Rattle.settle.specs.Settled.{Settled, Workable, Sound, SlackGiven, Slacks};
 use cells::place::cell_at;
 use cells::sums::sums_of;
 use lists::copy_u8;

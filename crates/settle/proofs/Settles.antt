@@ -7,21 +7,18 @@ use Prim.Native.Nat.{ℕ, _≤_}
 use native.Mathlib.Omega.{arith}
 use Rattle.lists.specs.Run.{padded}
 use Rattle.lists.proofs.Run.{padded-same}
-use Rattle.line.specs.Line.{Line}
 use Rattle.line.specs.Policy.{Policy, arrival}
-use Rattle.line.specs.Cells.{Book, bookOf, decide}
+use Rattle.line.specs.Cells.{Book, decide}
 use Rattle.line.specs.Alike.{BooksAlike}
 use Rattle.line.proofs.Following.{first-on-time}
 use Rattle.line.proofs.Days.{policies-alike}
 use Rattle.line.proofs.Alike.{decide-alike}
-use Rattle.line.proofs.Worked.{decided-total, decided-is-plan}
 use Rattle.cells.specs.Place.{tableOf}
 use Rattle.cells.specs.Shown.{shown}
 use Rattle.cells.proofs.Written.{rows-worked-alike}
 use Rattle.cells.proofs.Shown.{shown-same}
-use Rattle.planner.specs.declared.Answer.the-variants.{Accepted}
-use Rattle.planner.specs.Plan.{Buffers, Planned}
-use Rattle.planner.specs.Settled.{Settled}
+use Rattle.settle.specs.Buffers.{Buffers}
+use Rattle.settle.specs.Settled.{Settled}
 
 -- ---- by books alike
 
@@ -56,19 +53,4 @@ settled-alike A B t before after n alike S =
       decisions = S .decisions ∙ shown-alike A B alike (after .cells);
       delays = S .delays ∙ delays-alike A B alike (after .cells);
       total = S .total ∙ ap (λ (m : ℕ). tableOf m (after .cells) 1 1) (alike .trains);
-    }
-
--- ---- the plan
-
-pub settled-planned : (L : Line) (before after : Buffers) (n : ℕ) → Settled (bookOf L) (L .trains) before after n
-    → Planned L before after (Accepted n)
-settled-planned L before after n S =
-    let worked = S .cells .worked in
-    record {
-      policy = decide (bookOf L) (tableOf (L .trains) (after .cells));
-      plan = decided-is-plan L _ _ worked;
-      answer = ap Accepted (S .total ∙ sym (decided-total L _ _ worked));
-      decisions = S .decisions;
-      delays = S .delays;
-      cells = S .cells;
     }
