@@ -16,8 +16,8 @@ use Rattle.sheet.specs.Format.{trainsOf, pairsOf}
 use Rattle.sheet.specs.Numbers.{Lists, lists, numbersOf}
 use Rattle.sheet.specs.Checks.{sheetVerdict}
 use Rattle.sheet.specs.Accepted.{Lengths, SameNumbers, withDelay, DelayReplaced}
-use Rattle.reader.specs.declared.Reading.{Reading}
-use Rattle.reader.specs.declared.Reading.the-variants.{Accepted as ReadAccepted}
+use Rattle.decoder.specs.declared.Reading.{Reading}
+use Rattle.decoder.specs.declared.Reading.the-variants.{Accepted as ReadAccepted}
 use Rattle.reader.specs.Read.{Read}
 use Rattle.writer.specs.declared.Writing.{Writing}
 use Rattle.writer.specs.declared.Writing.the-variants.{Accepted as WriteAccepted}

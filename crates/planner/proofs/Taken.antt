@@ -24,13 +24,13 @@ use Rattle.sheet.specs.Checks.{sheetVerdict}
 use Rattle.sheet.specs.Accepted.{AcceptedSheet, SameNumbers}
 use Rattle.sheet.proofs.Facts.{accepted-of-fine}
 use Rattle.sheet.proofs.Meaning.{in-range-same}
-use Rattle.reader.specs.declared.Reading.the-variants.{Accepted as ReadAccepted}
-use Rattle.reader.specs.declared.decoding.Columns.{Columns}
-use Rattle.reader.specs.declared.decoding.Decoded.{Decoded}
-use Rattle.reader.specs.Decode.{ColumnsOf, Decoding}
-use Rattle.reader.proofs.Answers.{accepted-fine}
-use Rattle.reader.proofs.Outcome.{decoding-columns}
-use Rattle.reader.proofs.Held.{columns-same}
+use Rattle.decoder.specs.declared.Reading.the-variants.{Accepted as ReadAccepted}
+use Rattle.decoder.specs.declared.Columns.{Columns}
+use Rattle.decoder.specs.declared.Decoded.{Decoded}
+use Rattle.decoder.specs.Decode.{ColumnsOf, Decoding}
+use Rattle.decoder.proofs.Answers.{accepted-fine}
+use Rattle.decoder.proofs.Outcome.{decoding-columns}
+use Rattle.decoder.proofs.Held.{columns-same}
 use Rattle.cells.specs.Place.{tableOf}
 use Rattle.settle.specs.LineOf.{lineOf}
 use Rattle.planner.specs.declared.Answer.{Answer}

@@ -7,13 +7,13 @@ ghost use Rattle.rail.specs.Refusal.{blanksOf};
 ghost use Rattle.settle.specs.Buffers.{buffers};
 ghost use Rattle.planner.specs.Plan.{answerNumber, answerPlace, answerTotal};
 ghost use Rattle.planner.specs.Plan.{lengthsVerdict, Plan};
+use decoder::Reading;
+use decoder::decode;
 use lists::fill_u8;
 use lists::fill_u32;
 use rail::Refusal;
 use rail::Train;
 use rail::Verdict;
-use reader::Reading;
-use reader::decode;
 use settle::settle_numbers;
 
 // What plan answers: the total, or why not.

@@ -5,7 +5,6 @@ use mathlib.Core.List.{List}
 use lib.ListN.{length}
 use Prim.Native.Nat.{ℕ}
 use Rattle.rail.specs.declared.Refusal.{Refusal}
-use Rattle.rail.specs.declared.Verdict.{Verdict}
 use Rattle.rail.specs.declared.Verdict.the-variants.{Fine, Refused}
 use Rattle.rail.specs.Verdict.{numberIn, placeIn}
 use Rattle.rail.proofs.Checks.{if-fine, if-refused}
@@ -13,13 +12,14 @@ use Rattle.lists.proofs.Run.{padded-length}
 use Rattle.sheet.specs.Format.{trainsOf, periodOf}
 use Rattle.sheet.specs.Numbers.{Lists}
 use Rattle.sheet.specs.Accepted.{Lengths}
-use Rattle.reader.specs.declared.Reading.{Reading}
-use Rattle.reader.specs.declared.Reading.the-variants.{Accepted, Refused as ReadRefused}
-use Rattle.reader.specs.declared.decoding.Columns.{Columns}
-use Rattle.reader.specs.declared.decoding.Decoded.{Decoded}
-use Rattle.reader.specs.Read.{readNumber, readPlace, readTrains, readPeriod, readVerdict, Read}
-use Rattle.reader.specs.Decode.{ColumnsOf, NoColumns, Decoding, Fits, Stored}
-use Rattle.reader.proofs.Answers.{reading-refused, reading-accepted}
+use Rattle.decoder.specs.declared.Reading.{Reading}
+use Rattle.decoder.specs.declared.Reading.the-variants.{Accepted, Refused as ReadRefused}
+use Rattle.decoder.specs.declared.Columns.{Columns}
+use Rattle.decoder.specs.Answers.{readNumber, readPlace, readTrains, readPeriod}
+use Rattle.reader.specs.Read.{readVerdict, Read}
+use Rattle.decoder.specs.Decode.{ColumnsOf}
+use Rattle.reader.specs.Stored.{Fits, Stored}
+use Rattle.decoder.proofs.Answers.{reading-refused, reading-accepted}
 
 module _ (s : List ℕ) (before : Lists) where
   -- a refusal changes nothing
@@ -53,52 +53,6 @@ module _ (s : List ℕ) (before : Lists) where
         delays = k .delays ∙ h .delays ∙ if-fine _ _ _ e;
         passengers = k .passengers ∙ h .passengers ∙ if-fine _ _ _ e;
       }
-
--- ---- a sheet taken apart
-
-module _ (v : Verdict) (s : List ℕ) (d : Decoded) where
-  pub decoding-refused : {r : Refusal} → Refused r ≡ v → d .answer ≡ ReadRefused r → NoColumns (d .columns) → Decoding v s d
-  decoding-refused e p h =
-      record {
-        answer = p ∙ reading-refused _ _ _ e;
-        departures = h .departures ∙ if-refused _ _ _ e;
-        driving = h .driving ∙ if-refused _ _ _ e;
-        delays = h .delays ∙ if-refused _ _ _ e;
-        passengers = h .passengers ∙ if-refused _ _ _ e;
-      }
-
-  pub decoding-accepted : {m T : ℕ} → Fine ≡ v → d .answer ≡ Accepted m T → m ≡ trainsOf s → T ≡ periodOf s
-      → ColumnsOf s (d .columns) → Decoding v s d
-  decoding-accepted e p m T h =
-      record {
-        answer = p ∙ reading-accepted _ e m T;
-        departures = h .departures ∙ if-fine _ _ _ e;
-        driving = h .driving ∙ if-fine _ _ _ e;
-        delays = h .delays ∙ if-fine _ _ _ e;
-        passengers = h .passengers ∙ if-fine _ _ _ e;
-      }
-
-  pub decoding-columns : v ≡ Fine → Decoding v s d → ColumnsOf s (d .columns)
-  decoding-columns e h =
-      record {
-        departures = h .departures ∙ sym (if-fine _ _ _ (sym e));
-        driving = h .driving ∙ sym (if-fine _ _ _ (sym e));
-        delays = h .delays ∙ sym (if-fine _ _ _ (sym e));
-        passengers = h .passengers ∙ sym (if-fine _ _ _ (sym e));
-      }
-
--- two results that keep decode's promise are equal
-pub decode-one : (v : Verdict) (s : List ℕ) (d d′ : Decoded) → Decoding v s d → Decoding v s d′ → d ≡ d′
-decode-one v s d d′ g h =
-    λ i. record {
-      answer = (g .answer ∙ sym (h .answer)) i;
-      columns = record {
-        departures = (g .departures ∙ sym (h .departures)) i;
-        driving = (g .driving ∙ sym (h .driving)) i;
-        delays = (g .delays ∙ sym (h .delays)) i;
-        passengers = (g .passengers ∙ sym (h .passengers)) i;
-      };
-    }
 
 -- lists of the right lengths have room for the columns
 pub columns-fit : (s : List ℕ) (L : Lists) (c : Columns) → Lengths 64 2080 L → ColumnsOf s c → Fits c L

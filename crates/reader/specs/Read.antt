@@ -1,5 +1,4 @@
 -- What read returns and what it leaves in the lent lists. Document 01, "Four operations", and "Numbers of refusal".
---   readNumber a, readPlace a, readTrains a, readPeriod a     what the paper has the answer a carry
 --   readVerdict s L           all checks of read, in their order, for the sheet s and the lent lists L
 --   Read s before after a     what read answers for the sheet s, and what it leaves of the lists
 -- Assumes nothing.
@@ -9,35 +8,12 @@ use mathlib.Core.List.{List}
 use Rattle.lists.specs.Run.{padded}
 use Rattle.rail.specs.declared.Refusal.the-variants.{BufferLength}
 use Rattle.rail.specs.declared.Verdict.{Verdict}
-use Rattle.rail.specs.declared.Verdict.the-variants.{Fine, Refused}
-use Rattle.rail.specs.Refusal.{numberOf, placeOf}
 use Rattle.rail.specs.Verdict.{_andThen_, ifFine, numberIn, placeIn}
 use Rattle.sheet.specs.Format.{trainsOf, periodOf, departureOf, drivingOf, delayOf, passengersOf, pairsOf}
 use Rattle.sheet.specs.Numbers.{Lists}
 use Rattle.sheet.specs.Checks.{lengthsVerdict, sheetVerdict}
-use Rattle.reader.specs.declared.Reading.{Reading}
-use Rattle.reader.specs.declared.Reading.the-variants.{Accepted, Refused as ReadRefused}
-
--- accepted answers carry number and place 0; refused ones carry number and place, and 0 for m and T
-abbrev pub readNumber : Reading → ℕ
-readNumber (Accepted m T) = 0
-readNumber (ReadRefused r) = numberOf r
-
-abbrev pub readPlace : Reading → ℕ
-readPlace (Accepted m T) = 0
-readPlace (ReadRefused r) = placeOf r
-
-abbrev pub readTrains : Reading → ℕ
-readTrains (Accepted m T) = m
-readTrains (ReadRefused r) = 0
-
-abbrev pub readPeriod : Reading → ℕ
-readPeriod (Accepted m T) = T
-readPeriod (ReadRefused r) = 0
-
-abbrev pub readingOf : Verdict → ℕ → ℕ → Reading
-readingOf Fine m T = Accepted m T
-readingOf (Refused r) m T = ReadRefused r
+use Rattle.decoder.specs.declared.Reading.{Reading}
+use Rattle.decoder.specs.Answers.{readNumber, readPlace, readTrains, readPeriod, readingOf}
 
 -- three lists of exactly 64 numbers and one of exactly 2,080; then the sheet
 unfoldable pub readVerdict : List ℕ → Lists → Verdict

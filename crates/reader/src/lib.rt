@@ -1,62 +1,15 @@
 // Read: a sheet into four lent lists, refused by number. Each field of the sheet is read once.
 // `read` has no `requires`: any bytes and any lists get an answer.
-mod decoding;
-
-pub use decoding::Columns;
-pub use decoding::Decoded;
-pub use decoding::decode;
-ghost use mathlib.Core.Path.{_≡_};
 ghost use Rattle.sheet.specs.Numbers.{lists};
-ghost use Rattle.reader.specs.Read.{readNumber, readPlace, readTrains, readPeriod, Read};
-ghost use Rattle.reader.specs.Decode.{Fits, Stored};
+ghost use Rattle.reader.specs.Read.{Read};
+ghost use Rattle.reader.specs.Stored.{Fits, Stored};
+use decoder::Columns;
+use decoder::Reading;
+use decoder::decode;
 use lists::copy_u32;
 use rail::Refusal;
 use rail::Verdict;
 use sheet::checks::check_lengths;
-
-// What read answers: m and T, or why not.
-pub enum Reading {
-    Accepted(u32, u32),
-    Refused(Refusal),
-}
-
-impl Reading {
-    pub fn number(self) -> u32
-        ensures { λ r. ⌜ r ≡ readNumber self ⌝ }
-    {
-        match self {
-            Reading::Accepted(_, _) => 0,
-            Reading::Refused(refusal) => refusal.number(),
-        }
-    }
-
-    pub fn place(self) -> u32
-        ensures { λ r. ⌜ r ≡ readPlace self ⌝ }
-    {
-        match self {
-            Reading::Accepted(_, _) => 0,
-            Reading::Refused(refusal) => refusal.place(),
-        }
-    }
-
-    pub fn trains(self) -> u32
-        ensures { λ r. ⌜ r ≡ readTrains self ⌝ }
-    {
-        match self {
-            Reading::Accepted(m, _) => m,
-            Reading::Refused(_) => 0,
-        }
-    }
-
-    pub fn period(self) -> u32
-        ensures { λ r. ⌜ r ≡ readPeriod self ⌝ }
-    {
-        match self {
-            Reading::Accepted(_, period) => period,
-            Reading::Refused(_) => 0,
-        }
-    }
-}
 
 // The columns into the lent lists.
 fn store(

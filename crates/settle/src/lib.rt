@@ -11,10 +11,10 @@ ghost use Rattle.settle.specs.Buffers.{buffers};
 ghost use Rattle.settle.specs.Settled.{Settled, Workable, Sound, SlackGiven, Slacks};
 use cells::place::cell_at;
 use cells::sums::sums_of;
+use decoder::Columns;
 use lists::copy_u8;
 use lists::copy_u32;
 use rail::Train;
-use reader::Columns;
 use rows::work_rows;
 use walk::follow;
 

@@ -1,6 +1,6 @@
 // Records of read.
 use crate::writes;
-use reader::Reading;
+use decoder::Reading;
 use records::parts;
 use records::source;
 use records::source::short;

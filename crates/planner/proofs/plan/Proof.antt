@@ -8,7 +8,7 @@ use native.Mathlib.Omega.{arith}
 use Rattle.rail.specs.Refusal.{blanksOf}
 use Rattle.rail.proofs.Checks.{then-stop, then-pass}
 use Rattle.sheet.specs.Checks.{sheetVerdict}
-use Rattle.reader.proofs.Answers.{refused-verdict}
+use Rattle.decoder.proofs.Answers.{refused-verdict}
 use Rattle.settle.specs.Buffers.{Buffers, buffers, RightLengths}
 use Rattle.planner.specs.Plan.{planVerdict}
 use Rattle.planner.proofs.Refusals.{right-of-fine, fine-of-right, buffers-refusal}

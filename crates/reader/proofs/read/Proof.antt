@@ -10,9 +10,11 @@ use Rattle.sheet.specs.Format.{trainsOf, periodOf}
 use Rattle.sheet.specs.Numbers.{lists}
 use Rattle.sheet.specs.Checks.{lengthsVerdict, sheetVerdict}
 use Rattle.sheet.proofs.Facts.{lengths-of-fine}
-use Rattle.reader.specs.Read.{readVerdict, readingOf}
-use Rattle.reader.proofs.Answers.{accepted-fine, refused-verdict}
-use Rattle.reader.proofs.Outcome.{read-refused, read-accepted, decoding-columns, columns-fit}
+use Rattle.decoder.specs.Answers.{readingOf}
+use Rattle.reader.specs.Read.{readVerdict}
+use Rattle.decoder.proofs.Answers.{accepted-fine, refused-verdict}
+use Rattle.decoder.proofs.Outcome.{decoding-columns}
+use Rattle.reader.proofs.Outcome.{read-refused, read-accepted, columns-fit}
 use Rattle.reader.proofs.read.Statement.{statement}
 use Rattle.reader.proofs.read.Tie as tie
 

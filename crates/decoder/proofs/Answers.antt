@@ -1,0 +1,27 @@
+-- The answer of read from a verdict.
+-- Assumes nothing.
+use mathlib.Core.Path.{_≡_, refl, ap, ap₂, _∙_}
+use Prim.Native.Nat.{ℕ}
+use Rattle.lists.proofs.Order.{zero-not-one}
+use Rattle.rail.specs.declared.Refusal.{Refusal}
+use Rattle.rail.specs.declared.Verdict.{Verdict}
+use Rattle.rail.specs.declared.Verdict.the-variants.{Fine, Refused}
+use Rattle.decoder.specs.declared.Reading.the-variants.{Accepted, Refused as ReadRefused}
+use Rattle.decoder.specs.Answers.{readingOf}
+
+pub reading-refused : (v : Verdict) (m T : ℕ) {r : Refusal} → Refused r ≡ v → ReadRefused r ≡ readingOf v m T
+reading-refused v m T e = ap (λ (u : Verdict). readingOf u m T) e
+
+pub reading-accepted : (v : Verdict) {m m′ T T′ : ℕ} → Fine ≡ v → m ≡ m′ → T ≡ T′ → Accepted m T ≡ readingOf v m′ T′
+reading-accepted v {m′ =
+    m′} {T′ = T′} e p q = ap₂ (λ (a b : ℕ). Accepted a b) p q ∙ ap (λ (u : Verdict). readingOf u m′ T′) e
+
+-- an answer that accepts tells that the verdict is fine
+pub accepted-fine : (v : Verdict) (M P : ℕ) {m T : ℕ} → Accepted m T ≡ readingOf v M P → (v ≡ Fine) × (m ≡ M) × (T ≡ P)
+accepted-fine Fine M P e = (refl, cc, cc)
+accepted-fine (Refused r) M P e = zero-not-one (cc)
+
+-- and one that refuses tells for what
+pub refused-verdict : (v : Verdict) (M P : ℕ) {r : Refusal} → ReadRefused r ≡ readingOf v M P → v ≡ Refused r
+refused-verdict Fine M P e = zero-not-one (cc)
+refused-verdict (Refused r) M P e = cc

@@ -1,0 +1,64 @@
+-- The columns of a sheet hold its numbers, and their fields lie within the sheet.
+-- Assumes nothing.
+use mathlib.Core.Path.{refl}
+use mathlib.Core.List.{List}
+use Prim.Native.Nat.{ℕ, _+_, _≤_}
+use native.Mathlib.Omega.{arith}
+use Rattle.lists.proofs.Run.{padded-length, padded-nth}
+use Rattle.sheet.specs.Format.{trainsOf, periodOf, departureOf, drivingOf, delayOf, passengersOf, passengerColumn}
+use Rattle.sheet.specs.Format.{pairsOf}
+use Rattle.sheet.specs.Numbers.{lists, numbersOf, numbersIn}
+use Rattle.sheet.specs.Checks.{Room}
+use Rattle.sheet.specs.Accepted.{SameNumbers}
+use Rattle.sheet.proofs.Lengths.{layout, bytes-bits, pairs-le, train-within, passengers-within}
+use Rattle.decoder.specs.declared.Columns.{Columns}
+use Rattle.decoder.specs.Decode.{ColumnRoom, Head, ColumnsOf}
+
+module _ (s : List ℕ) (m : ℕ) (h : Head s m) where
+  -- the column of the trains whose first field is the w bits from bit a
+  pub train-room : (a w : ℕ) → a + w ≤ 51 → w ≤ 16 → ColumnRoom s (record { first = a; step = 33; width = w }) m 64
+  train-room a w end narrow =
+      let b = bytes-bits m in
+      let l = h .long in
+      record {
+        room = h .most;
+        within = λ k c. train-within s m a w k (omega (arith, layout m)) (h .most) end narrow c;
+      }
+
+  pub passenger-room : ColumnRoom s (passengerColumn m) (pairsOf m) 2080
+  passenger-room =
+      let b = bytes-bits m in
+      let l = h .long in
+      record {
+        room = pairs-le m (h .most);
+        within = λ k c. passengers-within s m k (omega arith) (h .most) c;
+      }
+
+  module _ (c : Columns) (held : ColumnsOf s c) where
+    pub columns-room : Room m (lists (c .departures) (c .driving) (c .delays) (c .passengers))
+    columns-room =
+        let n = h .most in
+        record {
+          trains = record {
+            least = h .least;
+            most = n;
+            departures = rw (held .departures, padded-length 64 _ _) n;
+            driving = rw (held .driving, padded-length 64 _ _) n;
+            delays = rw (held .delays, padded-length 64 _ _) n;
+          };
+          passengers = rw (held .passengers, padded-length 2080 _ _) (pairs-le m n);
+        }
+
+    pub columns-same : SameNumbers
+        (numbersIn m (periodOf s) (lists (c .departures) (c .driving) (c .delays) (c .passengers)))
+        (numbersOf s)
+    columns-same =
+        let n : trainsOf s ≤ 64 = omega (arith, h .trains, h .most) in
+        record {
+          trains = h .trains;
+          period = refl;
+          departure = padded-nth _ 64 _ (departureOf s) (held .departures) n;
+          driving = padded-nth _ 64 _ (drivingOf s) (held .driving) n;
+          delay = padded-nth _ 64 _ (delayOf s) (held .delays) n;
+          passengers = padded-nth _ 2080 _ (passengersOf s) (held .passengers) (pairs-le _ n);
+        }

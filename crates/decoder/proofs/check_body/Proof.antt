@@ -1,0 +1,71 @@
+-- `check_body` meets its contract: the columns hold the sheet's numbers, so that their verdict is the sheet's.
+-- Assumes nothing.
+use borrow.Author.Needs.{needs}
+use mathlib.Core.Path.{_≡_, sym, _∙_}
+use Rattle.rail.proofs.Checks.{then-stop, then-pass}
+use Rattle.sheet.specs.Format.{trainsOf, passengersOf}
+use Rattle.sheet.specs.Numbers.{timesOf}
+use Rattle.sheet.specs.Checks.{numbersVerdict, bodyVerdict}
+use Rattle.sheet.proofs.Meaning.{verdict-same}
+use Rattle.decoder.proofs.Held.{columns-room, columns-same}
+use Rattle.decoder.proofs.check_body.Statement.{statement}
+use Rattle.decoder.proofs.check_body.Tie as tie
+
+slice-aggregate-check-numbers : tie.Need-slice-aggregate-check-numbers
+slice-aggregate-check-numbers c = search needs
+
+slice-aggregate-check-numbers-2 : tie.Need-slice-aggregate-check-numbers-2
+slice-aggregate-check-numbers-2 c = search needs
+
+slice-aggregate-check-numbers-3 : tie.Need-slice-aggregate-check-numbers-3
+slice-aggregate-check-numbers-3 c = search needs
+
+slice-aggregate-check-numbers-4 : tie.Need-slice-aggregate-check-numbers-4
+slice-aggregate-check-numbers-4 c = search needs
+
+check-numbers-requires : tie.Need-check-numbers-requires
+check-numbers-requires c κs =
+    let start = c .before .before .before .before .before .before .before .before .before in
+    columns-room _ _ (start .pre .0) _ (start .pre .1)
+
+enum-told : tie.Need-enum-told
+enum-told c = search needs
+
+-- the verdict of the columns is that of the sheet's numbers
+numbers : (c : tie.After-check-numbers) →
+    let s = c .before .before .before .before .before .before .before .before .before .before .args .sheet .now in
+    c .check-numbers .result ≡ numbersVerdict (trainsOf s) (timesOf s) (passengersOf s)
+numbers c =
+    let start = c .before .before .before .before .before .before .before .before .before .before in
+    c .check-numbers .ensures ∙ verdict-same _ _ (columns-same _ _ (start .pre .0) _ (start .pre .1))
+
+returns : tie.Need-returns
+unfolding bodyVerdict
+returns c = then-stop _ _ (c .enum-told .given .1) (numbers (c .before .before))
+
+enum-told-2 : tie.Need-enum-told-2
+enum-told-2 c = search needs
+
+check-filling-requires : tie.Need-check-filling-requires
+check-filling-requires c κs = search needs
+
+returns-2 : tie.Need-returns-2
+unfolding bodyVerdict
+returns-2 c =
+    let told = c .before in
+    then-pass _ _ _ (sym (numbers (told .before .before)) ∙ told .enum-told2 .given .1) (c .check-filling .ensures)
+
+pub check-body-spec : {M : Type 1} → statement M
+check-body-spec =
+    tie.close
+    (tie.spec
+    slice-aggregate-check-numbers
+    slice-aggregate-check-numbers-2
+    slice-aggregate-check-numbers-3
+    slice-aggregate-check-numbers-4
+    check-numbers-requires
+    enum-told
+    returns
+    enum-told-2
+    check-filling-requires
+    returns-2)

@@ -1,0 +1,117 @@
+-- `read_head` meets its contract: each answer is the first check that refuses.
+-- Assumes nothing.
+use borrow.Author.Needs.{needs}
+use mathlib.Core.Path.{_≡_, refl, sym, ap, ap₂, _∙_}
+use native.Mathlib.Omega.{arith}
+use Rattle.rail.specs.declared.Verdict.the-variants.{Fine}
+use Rattle.rail.proofs.Checks.{hit, miss, then-stop, then-pass}
+use Rattle.sheet.specs.Format.{trainsOf, periodOf, bytesOf}
+use Rattle.sheet.specs.Checks.{rangesVerdict, headVerdict}
+use Rattle.sheet.proofs.Facts.{ranges-of-fine}
+use Rattle.decoder.proofs.Answers.{reading-refused, reading-accepted}
+use Rattle.decoder.proofs.read_head.Statement.{statement}
+use Rattle.decoder.proofs.read_head.Tie as tie
+
+-- from where m and T are checked back to the entry
+abbrev entry-of : tie.After-check-ranges → tie.Start
+entry-of c = c .before .before .before .before .before
+
+returns : tie.Need-returns
+unfolding headVerdict
+returns c = reading-refused _ _ _ (hit _ _ _ _ (omega arith))
+
+field-requires : tie.Need-field-requires
+field-requires c κs = search needs
+
+field-requires-2 : tie.Need-field-requires-2
+field-requires-2 c κs = search needs
+
+check-ranges-requires : tie.Need-check-ranges-requires
+check-ranges-requires c κs = search needs
+
+enum-known-ranges : tie.Need-enum-known-ranges
+enum-known-ranges c = search needs
+
+returns-2 : tie.Need-returns-2
+unfolding headVerdict
+returns-2 c =
+    let checked = c .before .before .before in
+    let ranges = checked .check-ranges .ensures
+    ∙ ap₂ rangesVerdict (checked .before .before .field .ensures) (checked .before .field2 .ensures) in
+    reading-refused _ _ _
+    (miss _ _ _ _ _ (omega arith) (then-stop _ _ refl (sym (c .before .ranges .given .1) ∙ ranges)))
+
+enum-told : tie.Need-enum-told
+enum-told c = search needs
+
+cast-bytes-of : tie.Need-cast-bytes-of
+cast-bytes-of c = search needs
+
+-- m and T passed
+passed : (c : tie.After-enum-told) →
+    let s = entry-of (c .before .before) .args .sheet .now in
+    rangesVerdict (trainsOf s) (periodOf s) ≡ Fine
+passed c =
+    let checked = c .before .before in
+    sym (ap₂ rangesVerdict (checked .before .before .field .ensures) (checked .before .field2 .ensures))
+    ∙ sym (checked .check-ranges .ensures)
+    ∙ c .enum-told .given .1
+
+bytes-of-requires : tie.Need-bytes-of-requires
+bytes-of-requires c κs =
+    omega (arith, ranges-of-fine _ _ (passed c) .trains-most, c .before .before .before .before .field .ensures)
+
+-- the length that m demands
+demanded : (c : tie.After-bytes-of) →
+    c .bytes-of .result ≡ bytesOf (trainsOf (entry-of (c .before .before .before) .args .sheet .now))
+demanded c = c .bytes-of .ensures ∙ ap bytesOf (c .before .before .before .before .before .field .ensures)
+
+returns-3 : tie.Need-returns-3
+unfolding headVerdict
+returns-3 c =
+    let e = demanded (c .before) in
+    reading-refused _ _ _
+    (miss _ _ _ _ _ (omega arith)
+    (then-pass _ _ _ (passed (c .before .before))
+    (hit _ _ _ _ (omega arith))))
+
+returns-4 : tie.Need-returns-4
+unfolding headVerdict
+returns-4 c =
+    let e = demanded (c .before .before) in
+    reading-refused _ _ _
+    (miss _ _ _ _ _ (omega arith)
+    (then-pass _ _ _ (passed (c .before .before .before))
+    (miss _ _ _ _ _ (omega arith)
+    (hit _ _ _ _ (omega arith)))))
+
+returns-5 : tie.Need-returns-5
+unfolding headVerdict
+returns-5 c =
+    let e = demanded (c .before .before) in
+    let read = c .before .before .before .before .before .before in
+    reading-accepted _
+    (miss _ _ _ _ _ (omega arith)
+    (then-pass _ _ _ (passed (c .before .before .before))
+    (miss _ _ _ _ _ (omega arith)
+    (miss _ _ _ _ _ (omega arith)
+    refl))))
+    (read .before .field .ensures)
+    (read .field2 .ensures)
+
+pub read-head-spec : {M : Type 1} → statement M
+read-head-spec =
+    tie.close
+    (tie.spec
+    returns
+    field-requires
+    field-requires-2
+    check-ranges-requires
+    enum-known-ranges
+    returns-2
+    enum-told
+    cast-bytes-of
+    bytes-of-requires
+    returns-3
+    returns-4
+    returns-5)

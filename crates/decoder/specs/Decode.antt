@@ -1,0 +1,50 @@
+-- What taking a sheet apart needs and leaves. Document 01, "Four operations", read: fields first, the rest 0.
+-- Assumes nothing.
+use Prim.Native.Nat.{ℕ, _+_, _*_, _≤_, _<_}
+use mathlib.Core.Path.{_≡_}
+use mathlib.Core.List.{List}
+use lib.ListN.{length, replicate}
+use Rattle.bits.specs.Field.{Within}
+use Rattle.lists.specs.Run.{padded}
+use Rattle.rail.specs.declared.Verdict.{Verdict}
+use Rattle.rail.specs.Verdict.{ifFine}
+use Rattle.sheet.specs.declared.format.Column.{Column}
+use Rattle.sheet.specs.Format.{trainsOf, periodOf, departureOf, drivingOf, delayOf, passengersOf, bytesOf, pairsOf}
+use Rattle.decoder.specs.declared.Columns.{Columns}
+use Rattle.decoder.specs.declared.Decoded.{Decoded}
+use Rattle.decoder.specs.Answers.{readingOf}
+
+-- n places of the column lie in the sheet, and a list of `size` has room for them
+pub record ColumnRoom (s : List ℕ) (c : Column) (n size : ℕ) : Type 0 where
+  pub room : n ≤ size
+  pub within : (k : ℕ) → k < n → Within s (c .first + c .step * k) (c .width)
+
+-- the sheet has m trains and the length that m demands
+pub record Head (s : List ℕ) (m : ℕ) : Type 0 where
+  pub trains : m ≡ trainsOf s
+  pub least : 1 ≤ m
+  pub most : m ≤ 64
+  pub long : length s ≡ bytesOf m
+
+-- the columns are those of the sheet, fields first, the rest 0
+pub record ColumnsOf (s : List ℕ) (c : Columns) : Type 0 where
+  pub departures : c .departures ≡ padded 64 (trainsOf s) (departureOf s)
+  pub driving : c .driving ≡ padded 64 (trainsOf s) (drivingOf s)
+  pub delays : c .delays ≡ padded 64 (trainsOf s) (delayOf s)
+  pub passengers : c .passengers ≡ padded 2080 (pairsOf (trainsOf s)) (passengersOf s)
+
+-- every number of the columns is 0
+pub record NoColumns (c : Columns) : Type 0 where
+  pub departures : c .departures ≡ replicate 64 0
+  pub driving : c .driving ≡ replicate 64 0
+  pub delays : c .delays ≡ replicate 64 0
+  pub passengers : c .passengers ≡ replicate 2080 0
+
+-- the answer by the verdict v, and the sheet's columns where it is fine, zeros where it refuses
+pub record Decoding (v : Verdict) (s : List ℕ) (d : Decoded) : Type 0 where
+  pub answer : d .answer ≡ readingOf v (trainsOf s) (periodOf s)
+  pub departures : d .columns .departures ≡ ifFine v (padded 64 (trainsOf s) (departureOf s)) (replicate 64 0)
+  pub driving : d .columns .driving ≡ ifFine v (padded 64 (trainsOf s) (drivingOf s)) (replicate 64 0)
+  pub delays : d .columns .delays ≡ ifFine v (padded 64 (trainsOf s) (delayOf s)) (replicate 64 0)
+  pub passengers : d .columns .passengers
+      ≡ ifFine v (padded 2080 (pairsOf (trainsOf s)) (passengersOf s)) (replicate 2080 0)
