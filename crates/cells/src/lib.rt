@@ -1,6 +1,5 @@
-// The working cells: where they stand, the sums they are worked from, rows worked from a train down
-// to 1, and decisions and delays read off cells as they stand. Nothing but the cells in use of the
-// rows that are worked is written.
+// The working cells: where they stand, the sums that they are worked from, and times and costs by
+// train and station. Nothing here writes a cell.
 pub mod place;
 pub mod sums;
 pub mod times;

@@ -1,4 +1,4 @@
-// Where the cells stand. No other file knows.
+// Where the cells stand, which no other file knows; and the square in which the sums stand.
 ghost use mathlib.Core.Path.{_≡_};
 ghost use Prim.Native.Nat.{_+_, _≤_, _<_};
 ghost use lib.ListN.{length};

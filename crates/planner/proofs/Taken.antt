@@ -51,8 +51,8 @@ settled-planned L before after n S =
       policy = decide (bookOf L) (tableOf (L .trains) (after .cells));
       plan = decided-is-plan L _ _ worked;
       answer = ap Accepted (S .total ∙ sym (decided-total L _ _ worked));
-      decisions = S .decisions;
-      delays = S .delays;
+      decisions = S .walked .decisions;
+      delays = S .walked .delays;
       cells = S .cells;
     }
 

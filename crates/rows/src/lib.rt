@@ -1,4 +1,5 @@
-// Rows of cells, each from the later rows as they stand.
+// Rows of cells, from a train down to 1, each from the later rows as they stand. Nothing but the
+// cells in use of these rows is written.
 ghost use mathlib.Core.Path.{_≡_};
 ghost use Prim.Native.Nat.{_≤_};
 ghost use lib.ListN.{length};
@@ -24,6 +25,7 @@ pub struct Staying {
     pub keep: [u64; 64],
 }
 
+// Along the run that begins with `first` on time.
 fn stay_along(first: Train, m: u32, slack: &[u32], source: &[u32], sums: &[u32]) -> Staying
     requires { ⌜ (1 ≤ first .0) × (first .0 ≤ m) × RunningGiven m (now slack) (now source) ×
         SumsGiven m (now sums) ⌝ }

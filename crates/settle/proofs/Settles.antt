@@ -50,7 +50,9 @@ pub settled-alike : (A B : Book) (t : ℕ) (before after : Buffers) (n : ℕ) �
 settled-alike A B t before after n alike S =
     record {
       cells = rows-worked-alike A B t _ _ alike (S .cells);
-      decisions = S .decisions ∙ shown-alike A B alike (after .cells);
-      delays = S .delays ∙ delays-alike A B alike (after .cells);
+      walked = record {
+        decisions = S .walked .decisions ∙ shown-alike A B alike (after .cells);
+        delays = S .walked .delays ∙ delays-alike A B alike (after .cells);
+      };
       total = S .total ∙ ap (λ (m : ℕ). tableOf m (after .cells) 1 1) (alike .trains);
     }

@@ -5,21 +5,18 @@ use Prim.Native.Nat.{ℕ, _+_, _-_, _≤_, _<_}
 use mathlib.Core.Path.{_≡_}
 use mathlib.Core.List.{List}
 use lib.ListN.{length}
-use Rattle.lists.specs.Run.{nth, padded}
-use Rattle.line.specs.Policy.{arrival}
-use Rattle.line.specs.Cells.{Book, decide}
+use Rattle.lists.specs.Run.{nth}
+use Rattle.line.specs.Cells.{Book}
 use Rattle.line.specs.Ranges.{limit}
 use Rattle.cells.specs.Place.{tableOf, RowsWorked}
-use Rattle.cells.specs.Shown.{shown}
+use Rattle.walk.specs.Walked.{Walked}
 use Rattle.sheet.specs.Numbers.{Lists, numbersIn}
 use Rattle.sheet.specs.Accepted.{Lengths, InRange}
 use Rattle.settle.specs.Buffers.{Buffers, RightLengths}
 
 pub record Settled (B : Book) (t : ℕ) (before after : Buffers) (n : ℕ) : Type 0 where
   pub cells : RowsWorked B t (before .cells) (after .cells)
-  pub decisions : after .decisions ≡ shown (B .trains) (decide B (tableOf (B .trains) (after .cells)))
-  pub delays : after .delays
-      ≡ padded 64 (B .trains) (arrival (B .running) (decide B (tableOf (B .trains) (after .cells))))
+  pub walked : Walked B (tableOf (B .trains) (after .cells)) (after .decisions) (after .delays)
   pub total : n ≡ tableOf (B .trains) (after .cells) 1 1
 
 -- the rows of trains 1 to t can be worked: every cell in use of the later rows is at most the limit

@@ -23,6 +23,7 @@ use Rattle.line.proofs.Decided.{begins-next, begins-first, begins-le, policy-by
 use Rattle.cells.specs.Place.{tableOf}
 use Rattle.cells.specs.Given.{leavingIn, aboardIn, runningIn, bookIn}
 use Rattle.cells.specs.Shown.{byteOf, shown}
+use Rattle.walk.specs.Walked.{Walked}
 use Rattle.walk.specs.Steps.{StepGiven, Stepped, WalkGiven}
 use Rattle.cells.proofs.Bounded.{running-in-range}
 
@@ -178,13 +179,14 @@ module _ (B : Book) (c : Table) where
           }
 
     -- all trains have decided and arrived
-    pub walk-end : B .trains < i
-        → (decisions ≡ shown (B .trains) (decide B c))
-        × (delays ≡ padded 64 (B .trains) (arrival (B .running) (decide B c)))
+    pub walk-end : B .trains < i → Walked B c decisions delays
     unfolding shown
     walk-end past =
         let all : w .done ≡ B .trains = omega arith in
-        (filled-counted _ 64 _ decisions (rw all at (w .shows)), filled-counted _ 64 _ delays (rw all at (w .delayed)))
+        record {
+          decisions = filled-counted _ 64 _ decisions (rw all at (w .shows));
+          delays = filled-counted _ 64 _ delays (rw all at (w .delayed));
+        }
 
 -- ---- what the code asks of the walk
 

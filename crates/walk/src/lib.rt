@@ -2,14 +2,14 @@
 ghost use mathlib.Core.Path.{_≡_};
 ghost use Prim.Native.Nat.{_+_, _-_, _*_, _≤_, _<_};
 ghost use lib.ListN.{length};
-ghost use Rattle.lists.specs.Run.{nth, padded};
-ghost use Rattle.line.specs.Policy.{arrival};
-ghost use Rattle.line.specs.Cells.{prefer, decide};
+ghost use Rattle.lists.specs.Run.{nth};
+ghost use Rattle.line.specs.Cells.{prefer};
 ghost use Rattle.line.specs.Ranges.{latest};
 ghost use Rattle.cells.specs.Place.{tableOf};
-ghost use Rattle.cells.specs.Given.{leavingIn, aboardIn, runningIn, bookIn, SumsGiven};
+ghost use Rattle.cells.specs.Given.{leavingIn, aboardIn, bookIn, SumsGiven};
 ghost use Rattle.cells.specs.Given.{PeriodGiven, CellsInRange};
-ghost use Rattle.cells.specs.Shown.{byteOf, shown};
+ghost use Rattle.cells.specs.Shown.{byteOf};
+ghost use Rattle.walk.specs.Walked.{Walked};
 ghost use Rattle.walk.specs.Steps.{StepGiven, Stepped, WalkGiven};
 use cells::place::cell_at;
 use cells::sums::boarded;
@@ -110,6 +110,7 @@ pub struct Walk {
     pub delays: [u32; 64],
 }
 
+// At each station the lesser choice, on the run that its feeder is on.
 pub fn follow(
     cells: &[u64],
     m: u32,
@@ -119,17 +120,10 @@ pub fn follow(
     sums: &[u32],
 ) -> Walk
     requires { ⌜ WalkGiven m (now cells) (now slack) (now source) (now period) (now sums) ⌝ }
-    ensures { λ r. ⌜ (r .decisions ≡ shown m
-        (decide
+    ensures { λ r. ⌜ Walked
         (bookIn m (now (slack .entry)) (now (source .entry)) (now (period .entry))
         (now (sums .entry)))
-        (tableOf m (now (cells .entry)))))
-        × (r .delays ≡ padded 64 m
-        (arrival (runningIn (now (slack .entry)) (now (source .entry)))
-        (decide
-        (bookIn m (now (slack .entry)) (now (source .entry)) (now (period .entry))
-        (now (sums .entry)))
-        (tableOf m (now (cells .entry)))))) ⌝ }
+        (tableOf m (now (cells .entry))) (r .decisions) (r .delays) ⌝ }
 {
     let mut decisions = [0u8; 64];
     let mut delays = [0u32; 64];

@@ -42,7 +42,7 @@ copy-u8-requires : tie.Need-copy-u8-requires
 copy-u8-requires c κs =
     let walked = c .before .before .before in
     let start = start-of (walked .before .before .before .before) in
-    ap length (walked .follow .ensures .0) ∙ shown-length _ _ ∙ sym (start .pre .0 .lengths .decisions)
+    ap length (walked .follow .ensures .decisions) ∙ shown-length _ _ ∙ sym (start .pre .0 .lengths .decisions)
 
 slice-aggregate-copy-u32 : tie.Need-slice-aggregate-copy-u32
 slice-aggregate-copy-u32 c = search needs
@@ -51,7 +51,7 @@ copy-u32-requires : tie.Need-copy-u32-requires
 copy-u32-requires c κs =
     let walked = c .before .before .before .before .before .before .before .before .before in
     let start = start-of (walked .before .before .before .before) in
-    ap length (walked .follow .ensures .1) ∙ padded-length 64 _ _ ∙ sym (start .pre .0 .lengths .delays)
+    ap length (walked .follow .ensures .delays) ∙ padded-length 64 _ _ ∙ sym (start .pre .0 .lengths .delays)
 
 leaves-requires : tie.Need-leaves-requires
 leaves-requires c κs = search needs
@@ -81,8 +81,10 @@ returns c =
     let first = c .cell-at .ensures ∙ ap (tableOf _ _ 1) (c .before .leaves .ensures) in
     record {
       cells = walked .before .before .before .before .work-rows .ensures;
-      decisions = c .before .before .before .before .before .before .before .before .before .before .before .copy-u8 .ensures ∙ walked .follow .ensures .0;
-      delays = c .before .before .before .before .before .copy-u32 .ensures ∙ walked .follow .ensures .1;
+      walked = record {
+        decisions = c .before .before .before .before .before .before .before .before .before .before .before .copy-u8 .ensures ∙ walked .follow .ensures .decisions;
+        delays = c .before .before .before .before .before .copy-u32 .ensures ∙ walked .follow .ensures .delays;
+      };
       total = first;
     }
 
