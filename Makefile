@@ -3,16 +3,16 @@
 .PHONY: help run test vectors format
 
 help:
-	@echo 'make run       prove read and write, run them on the list of document 01 and show what they answer'
-	@echo 'make test      the gate: prove everything from nothing, try the wrong versions, run the programs (4 minutes)'
+	@echo 'make run       prove plan, run it on the cases of document 01 and show what it answers and stores'
+	@echo 'make test      the gate: prove everything from nothing, try the wrong versions, run the programs (6 minutes)'
 	@echo 'make vectors   compare the test inputs with the independent reading of document 01 that made them (python3)'
 	@echo 'make format    lay out every source file'
 
 run:
 	@command -v rt > /dev/null || { echo 'rt, the command of the Rattle toolchain, is not on the PATH' >&2; exit 1; }
-	@echo 'proving what read and write rest on (a minute or two the first time) ..' >&2
-	@rt check sheet_cases > /dev/null || { rt check sheet_cases; exit 1; }
-	@cat target/log/sheet_cases.stdout
+	@echo 'proving what plan rests on (two or three minutes the first time) ..' >&2
+	@rt check plan_cases > /dev/null || { rt check plan_cases; exit 1; }
+	@cat target/log/plan_cases.stdout
 
 test:
 	@bash .ci/run

@@ -1,5 +1,5 @@
--- How large what is given and what is worked can be: lists that are given make a book in range, and so every worked cell
--- is at most the limit.
+-- How large what is given and what is worked can be: lists that are given make a book in range, and so every worked
+-- cell is at most the limit.
 -- Assumes nothing.
 use mathlib.Core.List.{List}
 use mathlib.Core.Logic.{inl, inr}

@@ -75,7 +75,8 @@ module _ (m : ℕ) (passengers : List ℕ) (l : ℕ) (before : List ℕ) where
           small = omega (arith, C .small, C .most);
           summed = next-at;
           others = λ i t a b not.
-              stored-column sums p k l (n + v) at first (omega (arith, C .most)) most i t a b not ∙ C .others i t a b not;
+              stored-column sums p k l (n + v) at first (omega (arith, C .most)) most i t a b not
+              ∙ C .others i t a b not;
         }
 
   pub column-end : (sums : List ℕ) (n k : ℕ) → ColumnTo m passengers l before sums n k → k ≡ 0

@@ -1,5 +1,5 @@
--- What cells are worked from, as lists: slack and period by station, source delays by train, all from 1, and the sums of
--- those who leave, in a square.
+-- What cells are worked from, as lists: slack and period by station, source delays by train, all from 1, and the sums
+-- of those who leave, in a square.
 --   leavingIn sums k l                    those who board at k to l and leave at l + 1
 --   boardedIn m sums k l                  those who board at k or later and leave after l
 --   aboardIn m sums k l                   those who board at k to l - 1 and leave after l

@@ -14,7 +14,8 @@ use Rattle.decoder.specs.Decode.{ColumnsOf, NoColumns, Decoding}
 use Rattle.decoder.proofs.Answers.{reading-refused, reading-accepted}
 
 module _ (v : Verdict) (s : List ℕ) (d : Decoded) where
-  pub decoding-refused : {r : Refusal} → Refused r ≡ v → d .answer ≡ ReadRefused r → NoColumns (d .columns) → Decoding v s d
+  pub decoding-refused : {r : Refusal} → Refused r ≡ v → d .answer ≡ ReadRefused r → NoColumns (d .columns)
+      → Decoding v s d
   decoding-refused e p h =
       record {
         answer = p ∙ reading-refused _ _ _ e;

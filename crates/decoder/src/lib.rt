@@ -1,5 +1,5 @@
-// A sheet taken apart: its head, each field behind it once, and the checks on what was read. Reading
-// and planning start from it. `decode` has no `requires`: any bytes get an answer.
+// A sheet taken apart: its head, each field behind it once, and the checks on what was read.
+// Reading and planning start from it. `decode` has no `requires`: any bytes get an answer.
 ghost use mathlib.Core.Path.{_≡_};
 ghost use Prim.Native.Nat.{_-_};
 ghost use lib.ListN.{length};
@@ -7,7 +7,8 @@ ghost use Rattle.lists.specs.Run.{padded};
 ghost use Rattle.lists.specs.Filled.{Filled};
 ghost use Rattle.sheet.specs.Format.{trainsOf, periodOf, entry};
 ghost use Rattle.sheet.specs.Checks.{headVerdict, fillingVerdict, bodyVerdict, sheetVerdict};
-ghost use Rattle.decoder.specs.Answers.{readNumber, readPlace, readTrains, readPeriod, readingOf};
+ghost use Rattle.decoder.specs.Answers.{readNumber, readPlace, readTrains, readPeriod};
+ghost use Rattle.decoder.specs.Answers.{readingOf};
 ghost use Rattle.decoder.specs.Decode.{ColumnRoom, Head, ColumnsOf, NoColumns, Decoding};
 use bits::field;
 use rail::Refusal;

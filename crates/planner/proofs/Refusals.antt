@@ -1,4 +1,5 @@
--- Which refusals the checks of plan can give: those of the buffers are for their length alone, the others are a sheet's.
+-- Which refusals the checks of plan can give: those of the buffers are for their length alone, the others are a
+-- sheet's.
 -- Assumes nothing.
 use mathlib.Core.Path.{_≡_, refl, sym, ap, _∙_}
 use mathlib.Core.List.{List}

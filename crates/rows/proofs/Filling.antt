@@ -1,4 +1,5 @@
--- A row of cells filled from its last cell back. Places of the row count from 0; its cell j is that of station s + j + 1.
+-- A row of cells filled from its last cell back. Places of the row count from 0; its cell j is that of station
+-- s + j + 1.
 --   FilledFrom   the cells from j on are filled, the first of them being `next`
 -- Assumes nothing.
 use mathlib.Core.Path.{_≡_, ap, sym, _∙_}

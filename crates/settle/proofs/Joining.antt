@@ -1,5 +1,5 @@
--- The lists that rows are worked from hold the line of the sheet's numbers: slack by station, the period everywhere, and
--- the sums of those who leave.
+-- The lists that rows are worked from hold the line of the sheet's numbers: slack by station, the period everywhere,
+-- and the sums of those who leave.
 -- Assumes nothing.
 use mathlib.Core.Path.{_≡_, refl, ap₂, sym, _∙_}
 use mathlib.Core.List.{List}

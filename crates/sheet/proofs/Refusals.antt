@@ -1,5 +1,5 @@
--- Which refusals a sheet can meet. 13 is write's alone: a driving time of a sheet has 10 bits. Each of the others blanks
--- in a plan and in a report.
+-- Which refusals a sheet can meet. 13 is write's alone: a driving time of a sheet has 10 bits. Each of the others
+-- blanks in a plan and in a report.
 --   OfSheet P   P holds of each of them
 -- Assumes nothing.
 use mathlib.Core.Path.{_≡_, refl, sym, ap, _∙_}

@@ -83,7 +83,8 @@ fn decide_at(
     ensures { λ r. ⌜ Stepped
         (bookIn m (now (slack .entry)) (now (source .entry)) (now (period .entry))
         (now (sums .entry)))
-        (tableOf m (now (cells .entry))) (first .0) (train .0) (r .decision) (r .first) (r .late) ⌝ }
+        (tableOf m (now (cells .entry))) (first .0) (train .0) (r .decision) (r .first)
+        (r .late) ⌝ }
 {
     let excess = excess_at(slack, train.leaves(), late);
     let kept = arrives(source, train, excess);

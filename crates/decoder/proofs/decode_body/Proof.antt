@@ -30,7 +30,8 @@ returns-2 : tie.Need-returns-2
 returns-2 c =
     let start = c .before .before .before .before .before in
     let e = sym (c .enum-told .given .1) ∙ c .before .before .check-body .ensures in
-    decoding-accepted _ _ _ e refl (start .pre .0 .trains) (start .pre .1) (c .before .before .before .read-columns .ensures)
+    decoding-accepted _ _ _ e refl (start .pre .0 .trains) (start .pre .1)
+    (c .before .before .before .read-columns .ensures)
 
 pub decode-body-spec : {M : Type 1} → statement M
 decode-body-spec =

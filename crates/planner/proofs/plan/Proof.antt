@@ -34,7 +34,9 @@ same-length-2 c = search needs
 
 -- the buffers as they were lent
 abbrev lent-to : tie.After-check-buffers → Buffers
-lent-to c = let start = c .before .before .before .before .before .args in buffers (start .cells .now) (start .decisions .now) (start .delays .now)
+lent-to c =
+    let start = c .before .before .before .before .before .args in
+    buffers (start .cells .now) (start .decisions .now) (start .delays .now)
 
 returns : tie.Need-returns
 unfolding planVerdict
@@ -89,7 +91,8 @@ returns-2 c =
     let decoded = told .before .before in
     let lent = lent-to (decoded .before .before .before) in
     let lengths = right (decoded .before) in
-    let verdict = refused-verdict (sheetVerdict _) _ _ (sym (told .answer .given .1) ∙ decoded .decode .ensures .answer) in
+    let answer = sym (told .answer .given .1) ∙ decoded .decode .ensures .answer in
+    let verdict = refused-verdict (sheetVerdict _) _ _ answer in
     plan-refused _ lent _ _ _ (then-pass _ _ _ (fine-of-right lent lengths) (sym verdict))
     (refused-for _ lent _ _ (inl lengths) (refused .refuse2 .ensures .0) (refused .refuse2 .ensures .1)
     (refused .refuse2 .ensures .2) refl)

@@ -60,7 +60,9 @@ shared-slice-read-lesser-2 : tie.Need-shared-slice-read-lesser-2 Inv-loop μ-loo
 shared-slice-read-lesser-2 c = search needs
 
 add-lesser : tie.Need-add-lesser Inv-loop μ-loop
-add-lesser c = omega (arith, spot (c .before .before), c .before .before .before .loop .inv .small, size (c .before .before))
+add-lesser c =
+    let turn = c .before .before in
+    omega (arith, spot turn, turn .before .loop .inv .small, size turn)
 
 mul-lesser-3 : tie.Need-mul-lesser-3 Inv-loop μ-loop
 mul-lesser-3 c = search needs

@@ -23,7 +23,8 @@ loop-holds : tie.Need-loop-holds Inv-loop μ-loop
 loop-holds c =
     let start = c .before .before .before in
     gone-start _ _ _ _ (replicate 64 0) refl
-    (getD-replicate 64 (start .args .first .0 - 1) 0 0 (omega (arith, start .pre .0, start .pre .1, start .pre .3 .trains)))
+    (getD-replicate 64 (start .args .first .0 - 1) 0 0
+    (omega (arith, start .pre .0, start .pre .1, start .pre .3 .trains)))
     (start .pre .1)
 
 index-requires : tie.Need-index-requires Inv-loop μ-loop

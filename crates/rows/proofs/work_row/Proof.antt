@@ -90,7 +90,8 @@ fill-row-requires c κs =
     let start = start-of placed in
     let go = placed .before .before in
     rw (part-size placed) (row-room _ _ _ _ _ _ _ _ _ _ (start .pre .given) (start .pre .first) (start .pre .last)
-    (go .before .before .before .stay-along .ensures) (go .go-along .ensures) (start .pre .long-diagonal) (start .pre .most))
+    (go .before .before .before .stay-along .ensures) (go .go-along .ensures) (start .pre .long-diagonal)
+    (start .pre .most))
 
 mul-result : tie.Need-mul-result
 mul-result c = omega (arith, spot (c .before .before .before .before .before .before .before .before) .1)

@@ -22,8 +22,15 @@ work-rows-requires c κs =
       later = λ l a b. start .pre .0 .later l l a (le-refl l) b;
     }
 
+-- from one call back to the one before it
 abbrev start-of : tie.After-work-rows → tie.Start
 start-of c = c .before .before .before .before .before .before .before .before .before
+
+abbrev walk-of : tie.After-copy-u8 → tie.After-follow
+walk-of c = c .before .before .before .before
+
+abbrev bytes-of : tie.After-copy-u32 → tie.After-copy-u8
+bytes-of c = c .before .before .before .before .before .before
 
 follow-requires : tie.Need-follow-requires
 follow-requires c κs =
@@ -58,7 +65,8 @@ leaves-requires c κs = search needs
 
 cell-at-requires : tie.Need-cell-at-requires
 cell-at-requires c κs =
-    let worked = c .before .before .before .before .before .before .before .before .before .before .before .before .before .before .before .before .before .before in
+    let walked = walk-of (bytes-of (c .before .before .before .before)) in
+    let worked = walked .before .before .before .before in
     let start = start-of worked in (
       omega arith,
       omega (arith, c .leaves .ensures),
@@ -77,15 +85,16 @@ same-length-3 c = search needs
 
 returns : tie.Need-returns
 returns c =
-    let walked = c .before .before .before .before .before .before .before .before .before .before .before .before .before .before .before in
-    let first = c .cell-at .ensures ∙ ap (tableOf _ _ 1) (c .before .leaves .ensures) in
+    let minutes = c .before .before .before .before .before in
+    let bytes = bytes-of minutes in
+    let walked = walk-of bytes in
     record {
       cells = walked .before .before .before .before .work-rows .ensures;
       walked = record {
-        decisions = c .before .before .before .before .before .before .before .before .before .before .before .copy-u8 .ensures ∙ walked .follow .ensures .decisions;
-        delays = c .before .before .before .before .before .copy-u32 .ensures ∙ walked .follow .ensures .delays;
+        decisions = bytes .copy-u8 .ensures ∙ walked .follow .ensures .decisions;
+        delays = minutes .copy-u32 .ensures ∙ walked .follow .ensures .delays;
       };
-      total = first;
+      total = c .cell-at .ensures ∙ ap (tableOf _ _ 1) (c .before .leaves .ensures);
     }
 
 pub settle-spec : {M : Type 1} → statement M

@@ -24,7 +24,9 @@ abbrev start-of : tie.After-sums-of → tie.Start
 start-of c = c .before .before .before .before .before .before .before .before .before .before .before .before
 
 sums-of-requires : tie.Need-sums-of-requires
-sums-of-requires c κs = fields-given _ _ _ (c .before .before .before .before .before .before .before .before .before .before .before .pre .1)
+sums-of-requires c κs =
+    let start = c .before .before .before .before .before .before .before .before .before .before .before in
+    fields-given _ _ _ (start .pre .1)
 
 slice-aggregate-settle : tie.Need-slice-aggregate-settle
 slice-aggregate-settle c = search needs
@@ -42,7 +44,8 @@ settle-requires : tie.Need-settle-requires
 settle-requires c κs =
     let summed = c .before .before .before .before .before .before .before in
     let start = start-of summed in
-    (start .pre .0, lists-given _ _ _ (start .pre .1) _ (summed .sums-of .ensures) _ (summed .before .before .slacks .ensures))
+    let slacks = summed .before .before .slacks .ensures in
+    (start .pre .0, lists-given _ _ _ (start .pre .1) _ (summed .sums-of .ensures) _ slacks)
 
 same-length : tie.Need-same-length
 same-length c = search needs
@@ -55,10 +58,12 @@ same-length-3 c = search needs
 
 returns : tie.Need-returns
 returns c =
-    let summed = c .before .before .before .before .before .before .before .before .before .before .before .before .before .before in
-    let start = start-of summed in
-    settled-alike _ _ _ _ _ _ (lists-alike _ _ _ (start .pre .1) _ (summed .sums-of .ensures) _ (summed .before .before .slacks .ensures))
-    (c .before .before .before .before .before .before .settle .ensures)
+    let settled = c .before .before .before .before .before .before in
+    let summed = settled .before .before .before .before .before .before .before .before in
+    let slacks = summed .before .before .slacks .ensures in
+    settled-alike _ _ _ _ _ _
+    (lists-alike _ _ _ (start-of summed .pre .1) _ (summed .sums-of .ensures) _ slacks)
+    (settled .settle .ensures)
 
 pub settle-numbers-spec : {M : Type 1} → statement M
 settle-numbers-spec =

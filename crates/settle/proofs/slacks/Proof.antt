@@ -46,7 +46,8 @@ loop-again c =
     let few = c .before .before .before .before .before .before .pre .0 in (
       omega (arith, I .0),
       simp length-set (I .1),
-      held-set (at-loop .list) (c .index .result) (at-loop .i) _ (c .index .ensures) (omega (arith, I .0)) _ 2 (at-loop .i + 1)
+      held-set (at-loop .list) (c .index .result) (at-loop .i) _ (c .index .ensures) (omega (arith, I .0)) _ 2
+      (at-loop .i + 1)
           (omega arith) (omega (arith, I .1, c .index .ensures)) (c .before .slack .ensures)
           (λ l a b n. I .2 l a (omega arith)),
     )

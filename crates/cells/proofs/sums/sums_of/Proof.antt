@@ -15,7 +15,8 @@ abbrev μ-loop : tie.MeasureT-loop
 μ-loop passengers m sums₀ i₀ sums i = m + 1 - i
 
 loop-holds : tie.Need-loop-holds Inv-loop μ-loop
-loop-holds c = record { least = omega arith; most = omega arith; long = refl; summed = λ k l a b d. absurd (omega arith) }
+loop-holds c =
+    record { least = omega arith; most = omega arith; long = refl; summed = λ k l a b d. absurd (omega arith) }
 
 slice-aggregate-sum-column : tie.Need-slice-aggregate-sum-column Inv-loop μ-loop
 slice-aggregate-sum-column c = search needs

@@ -17,7 +17,8 @@ wide-requires c κs = search needs
 
 source-here : (c : tie.After-wide) →
     c .wide .result ≡ nth (c .before .before .before .args .source .now) (c .before .before .before .args .train .0)
-source-here c = c .wide .ensures ∙ nth-index (c .before .before .before .args .source .now) _ _ (c .before .index .ensures)
+source-here c =
+    c .wide .ensures ∙ nth-index (c .before .before .before .args .source .now) _ _ (c .before .index .ensures)
 
 add-result : tie.Need-add-result
 add-result c = omega (arith, source-here c, c .before .before .before .pre)

@@ -20,7 +20,8 @@ sub-result c = search needs
 
 slack-here : (c : tie.After-wide) →
     c .wide .result ≡ nth (c .before .before .before .args .slack .now) (c .before .before .before .args .station .0)
-slack-here c = c .wide .ensures ∙ nth-index (c .before .before .before .args .slack .now) _ _ (c .before .index .ensures)
+slack-here c =
+    c .wide .ensures ∙ nth-index (c .before .before .before .args .slack .now) _ _ (c .before .index .ensures)
 
 returns : tie.Need-returns
 returns c = ap (λ (x : ℕ). c .before .before .before .before .args .late - x) (slack-here (c .before))

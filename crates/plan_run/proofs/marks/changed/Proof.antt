@@ -1,4 +1,5 @@
--- `marks::changed` is safe and ends: it counts no more than the places passed, and the places left fall. Assumes nothing.
+-- `marks::changed` is safe and ends: it counts no more than the places passed, and the places left fall.
+-- Assumes nothing.
 use borrow.Author.Needs.{needs}
 use Prim.Native.Nat.{_≤_, _-_}
 use lib.ListN.{length}
