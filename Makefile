@@ -1,11 +1,12 @@
 # The commands of the project. `make` alone lists them.
 
-.PHONY: help run test vectors format
+.PHONY: help run test vectors wrong format
 
 help:
 	@echo 'make run       prove plan, run it on the cases of document 01 and show what it answers and stores'
 	@echo 'make test      the gate: prove everything from nothing, try the wrong versions, run the programs (6 minutes)'
-	@echo 'make vectors   compare the test inputs with the independent reading of document 01 that made them (python3)'
+	@echo 'make vectors   compare the test inputs and the answers they must get with the independent readings of document 01'
+	@echo 'make wrong     tell how many test records each of 30 wrong rules of planning would change (python3, 40 s)'
 	@echo 'make format    lay out every source file'
 
 run:
@@ -22,6 +23,9 @@ vectors:
 	python3 tests/sheets.py --check
 	python3 tests/plan_cases.py --check
 	python3 tests/plans.py --check
+
+wrong:
+	python3 tests/plans.py --wrong
 
 format:
 	rt fmt

@@ -1,5 +1,5 @@
--- What cells are worked from, as lists: slack and period by station, source delays by train, all from 1, and the sums
--- of those who leave, in a square.
+-- What cells are worked from, as lists. Document 01, "The working cells": slack and period by station, source delays
+-- by train, all from 1, and the sums of those who leave, in a square.
 --   leavingIn sums k l                    those who board at k to l and leave at l + 1
 --   boardedIn m sums k l                  those who board at k or later and leave after l
 --   aboardIn m sums k l                   those who board at k to l - 1 and leave after l
@@ -42,7 +42,7 @@ bookIn m slack source period sums =
       aboard = aboardIn m sums;
     }
 
--- times of the right lengths, source delays of at most 1,440
+-- slack and source delays in 64 places, each source delay at most 1,440
 pub record RunningGiven (m : ℕ) (slack source : List ℕ) : Type 0 where
   pub trains : m ≤ 64
   pub long-slack : length slack ≡ 64

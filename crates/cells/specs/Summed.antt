@@ -1,5 +1,9 @@
--- The sums of a line, from its passenger fields: place (k, l) of the square holds those who board at k to l and leave
--- train l. What the steps of summing need and leave.
+-- The sums of a line, from its passenger fields. Document 01, "The working cells": those who board at k to l and leave
+-- at l + 1, in place (k, l) of the square.
+--   pairIn m passengers i j         those who board at i and leave at j
+--   Fields                          the fields of a line, each at most 10,000
+--   SumAt, ColumnSummed, Summed     one place, one column and the whole square hold their sums
+--   Boarders m sums boarders        by train l, those who board at l or later and leave
 -- Assumes nothing.
 use Prim.Native.Nat.{ℕ, _+_, _≤_}
 use mathlib.Core.Path.{_≡_}

@@ -21,7 +21,8 @@ fn pair(passengers: &[u32], m: u32, from: Station, to: Station) -> u32
     passengers[field_of_pair(m, from, to) - 1]
 }
 
-// The column of one train, from those who board it last to those who board at station 1.
+// The column of one train, from those who board at the station it leaves back to those who board at
+// station 1.
 fn sum_column(sums: &mut [u32], passengers: &[u32], m: u32, train: Train)
     requires { ⌜ Fields m (now passengers) × (length (now sums) ≡ 4096) × (1 ≤ train .0) ×
         (train .0 ≤ m) ⌝ }

@@ -1,4 +1,8 @@
 -- What taking a sheet apart needs and leaves. Document 01, "Four operations", read: fields first, the rest 0.
+--   ColumnRoom, Head               what reading a column, and what stands behind the head, needs
+--   listsOf c                      the columns as four lists
+--   ColumnsOf s c, NoColumns c     the columns are the sheet's, or all 0
+--   Decoding v s d                 the sheet s taken apart under the verdict v
 -- Assumes nothing.
 use Prim.Native.Nat.{ℕ, _+_, _*_, _≤_, _<_}
 use mathlib.Core.Path.{_≡_}

@@ -31,6 +31,7 @@ pub enum Reading {
 }
 
 impl Reading {
+    // The number of the refusal, 0 where accepted.
     pub fn number(self) -> u32
         ensures { λ r. ⌜ r ≡ readNumber self ⌝ }
     {
@@ -40,6 +41,7 @@ impl Reading {
         }
     }
 
+    // The place of the refusal, 0 where accepted or where it has none.
     pub fn place(self) -> u32
         ensures { λ r. ⌜ r ≡ readPlace self ⌝ }
     {
@@ -49,6 +51,7 @@ impl Reading {
         }
     }
 
+    // m, 0 where refused.
     pub fn trains(self) -> u32
         ensures { λ r. ⌜ r ≡ readTrains self ⌝ }
     {
@@ -58,6 +61,7 @@ impl Reading {
         }
     }
 
+    // T, 0 where refused.
     pub fn period(self) -> u32
         ensures { λ r. ⌜ r ≡ readPeriod self ⌝ }
     {
@@ -219,7 +223,7 @@ fn decode_body(sheet: &[u8], m: u32, period: u32) -> Decoded
     }
 }
 
-// A sheet taken apart, each field read once: what planning starts from.
+// A sheet taken apart, each field read once.
 pub fn decode(sheet: &[u8]) -> Decoded
     ensures { λ r. ⌜ Decoding (sheetVerdict (now (sheet .entry))) (now (sheet .entry)) r ⌝ }
 {

@@ -3,9 +3,9 @@
 -- proof of the function shows.
 --   SameLengths b c           every list of c has the length that it had in b
 --   Blanked before after      the decisions and the delays are blank, the cells as they were
---   RefusedBy r a             the answer a carries number and place of the refusal r, and 0 for the total
---   Possible s before         buffers and an answer that the contract allows for the sheet s
+--   Carries r a               the answer a carries number and place of the refusal r, and 0 for the total
 --   Answered s before after a     what demand 1 says of one plan
+--   Possible s before         buffers and an answer that the contract allows for the sheet s
 --   policyIn bytes            the policy that decision bytes show
 --   LeastPlan L after a       what demand 2 says of one accepted plan, of the line L
 --   Demand1, Demand2          the demands
@@ -53,7 +53,7 @@ pub record RefusedBy (r : Refusal) (a : Answer) : Type 0 where
   pub total : answerTotal a ≡ 0
 
 pub record Answered (s : List ℕ) (before after : Buffers) (a : Answer) : Type 0 where
-  -- Accepted, that is number 0, exactly when the buffers have the stated lengths and the sheet is sound.
+  -- Accepted, that is number 0, exactly when the buffers have the stated lengths and the sheet passes every check.
   pub accepts : RightLengths before → AcceptedSheet s → answerNumber a ≡ 0
   pub accepted-only : answerNumber a ≡ 0 → RightLengths before × AcceptedSheet s
   pub accepted-place : answerNumber a ≡ 0 → answerPlace a ≡ 0

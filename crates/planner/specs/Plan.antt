@@ -1,5 +1,6 @@
 -- What plan returns and what it leaves in the lent buffers. Document 01, "Four operations", and "Numbers of refusal".
 --   answerNumber a, answerPlace a, answerTotal a     what the paper has the answer a carry
+--   bufferLengthsVerdict, buffersVerdict     the check of the lengths, by numbers and of buffers
 --   planVerdict s b               all checks of plan, in their order, for the sheet s and the buffers b
 --   Planned L before after a      an accepted plan of the line L
 --   RefusedFor r before after a   what a refusal leaves

@@ -4,6 +4,7 @@
 --   Leaves m n ds ys rows after a     m trains: the total is n; the decision bytes begin with ds and the delays with
 --                                ys, the rest 0; the cells in use are these rows
 --   Answers s m n ds ys rows     plan leaves that on the sheet s, whatever buffers of the right lengths held before
+--   AnswersA, AnswersB, AnswersB13     of cases a, b4 and b6
 --   decisionsB, rowsB, decisionsB13, rowsB13     the bytes and rows of cases b4 and b6 (line/specs/Cases)
 -- Assumes nothing.
 use Prim.Native.Nat.{ℕ, _≤_}
@@ -44,7 +45,7 @@ Answers s m n ds ys rows =
 abbrev pub AnswersA : Type 0
 AnswersA = Answers sheetA 1 21 (0 ∷ []) (7 ∷ []) ((21 ∷ []) ∷ [])
 
--- ---- go, keep
+-- ---- b4: go, keep
 
 abbrev pub decisionsB : List ℕ
 decisionsB = 0 ∷ 0 ∷ 1 ∷ []
@@ -55,7 +56,7 @@ rowsB = (176 ∷ 140 ∷ 54 ∷ []) ∷ (30 ∷ 0 ∷ []) ∷ (0 ∷ []) ∷ []
 abbrev pub AnswersB : Type 0
 AnswersB = Answers sheetB 3 176 decisionsB (9 ∷ 3 ∷ 0 ∷ []) rowsB
 
--- ---- keep, keep
+-- ---- b6: keep, keep
 
 abbrev pub decisionsB13 : List ℕ
 decisionsB13 = 0 ∷ 1 ∷ 1 ∷ []

@@ -23,6 +23,7 @@ pub enum Answer {
 }
 
 impl Answer {
+    // The number of the refusal, 0 where accepted.
     pub fn number(self) -> u32
         ensures { λ r. ⌜ r ≡ answerNumber self ⌝ }
     {
@@ -32,6 +33,7 @@ impl Answer {
         }
     }
 
+    // The place of the refusal, 0 where accepted or where it has none.
     pub fn place(self) -> u32
         ensures { λ r. ⌜ r ≡ answerPlace self ⌝ }
     {
@@ -41,6 +43,7 @@ impl Answer {
         }
     }
 
+    // The total, 0 where refused.
     pub fn total(self) -> u64
         ensures { λ r. ⌜ r ≡ answerTotal self ⌝ }
     {
@@ -67,7 +70,7 @@ fn check_buffers(cells: usize, decisions: usize, delays: usize) -> Verdict
     Verdict::Fine
 }
 
-// A decision that is none.
+// A blanked decision byte: neither keep nor go.
 const BLANK: u8 = 2;
 
 // What a refusal leaves: blanks, or nothing written where the refusal is for a length.
@@ -87,7 +90,9 @@ fn refuse(refusal: Refusal, decisions: &mut [u8], delays: &mut [u32]) -> Answer
     Answer::Refused(refusal)
 }
 
-// Plans the line of a sheet.
+// Plans the line of a sheet: cells, decisions and delays into the lent buffers, the total as the
+// answer. A refusal blanks decisions and delays, but for one of a buffer's length, which writes
+// nothing.
 pub fn plan(sheet: &[u8], cells: &mut [u64], decisions: &mut [u8], delays: &mut [u32]) -> Answer
     ensures { λ r. ⌜ Plan (now (sheet .entry))
         (buffers (now (cells .entry)) (now (decisions .entry)) (now (delays .entry)))

@@ -1,4 +1,5 @@
--- What storing the columns of a sheet in the lent lists needs and leaves.
+-- Storing the columns of a sheet in the lent lists. Document 01, "Four operations", read.
+--   Fits c L, Stored c L   the lists are as long as the columns; they are the columns
 -- Assumes nothing.
 use mathlib.Core.Path.{_≡_}
 use lib.ListN.{length}

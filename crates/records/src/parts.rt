@@ -1,4 +1,4 @@
-// The first places of a list, all of them where it has fewer.
+// Parts of a list: its first places, all of them where it has fewer, and what stands behind them.
 pub fn numbers(list: &[u32], n: usize) -> &[u32] {
     if n <= list.len() { &list[..n] } else { list }
 }

@@ -1,4 +1,11 @@
--- What the steps of working rows need and leave. Rows and trains count from 1, places of a list from 0.
+-- What the steps of working rows need and leave. Document 01, "The working cells". Rows, trains and stations count
+-- from 1, places of a list from 0.
+--   Keeps, Goes           the excess and what keep costs, and what go costs, at each station of the run from k
+--   Diagonal              the first cells of the rows after t
+--   ceiling               more than any row can come to
+--   RowRoom, RowFilled    what filling a row needs and leaves
+--   RowGiven, RowWorked   what working row k needs and leaves
+--   RowsGiven             what working rows 1 to t needs; what it leaves is RowsWorked (cells/specs/Place)
 -- Assumes nothing.
 use Prim.Native.Nat.{ℕ, _+_, _*_, _≤_, _<_}
 use mathlib.Core.Path.{_≡_}

@@ -25,7 +25,7 @@ pub struct Staying {
     pub keep: [u64; 64],
 }
 
-// Along the run that begins with `first` on time.
+// These along the run that begins with `first` on time.
 fn stay_along(first: Train, m: u32, slack: &[u32], source: &[u32], sums: &[u32]) -> Staying
     requires { ⌜ (1 ≤ first .0) × (first .0 ≤ m) × RunningGiven m (now slack) (now source) ×
         SumsGiven m (now sums) ⌝ }
@@ -117,7 +117,7 @@ fn diagonal_after(cells: &[u64], m: u32, last: Train) -> [u64; 64]
     diagonal
 }
 
-// One row, a part of the cells of its own; its first cell.
+// Works one row, lent as a part of the cells of its own, and answers its first cell.
 fn work_row(
     cells: &mut [u64],
     m: u32,

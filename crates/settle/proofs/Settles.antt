@@ -1,5 +1,5 @@
--- Settled work: it reads no more of a book than books alike have in common, and on the book of a line it is the plan.
--- The rows are those of document 01, so that what is read off them is the plan and cell (1, 1) is its total.
+-- Settled work reads no more of a book than books alike have in common: what is settled for one is settled for the
+-- other.
 -- Assumes nothing.
 use mathlib.Core.Path.{_≡_, ap, sym, _∙_}
 use mathlib.Core.List.{List}

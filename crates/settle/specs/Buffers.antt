@@ -1,5 +1,6 @@
 -- The lent buffers of plan and report. Document 01, "Four operations".
 --   Buffers          the working cells, the decision bytes and the delays, as they are lent or left
+--   buffers c d y    these three lists as one
 --   RightLengths b   they have the lengths that document 01 states
 -- Assumes nothing.
 use Prim.Native.Nat.{ℕ}

@@ -1,5 +1,6 @@
 -- The line that a sheet's numbers describe. Document 01, "The line and its numbers", and "The bit sheet". There is no
 -- other way from a sheet to a line.
+--   lineOf N   the line of the numbers N
 -- Assumes nothing.
 use Rattle.line.specs.Line.{Line, lineFrom}
 use Rattle.sheet.specs.Numbers.{Numbers}

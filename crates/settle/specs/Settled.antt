@@ -1,5 +1,9 @@
 -- What the work on accepted numbers leaves, in a plan and in a report: rows 1 to t worked anew, decisions by comparing
 -- the two choices in the cells, delays by following them, the total cell (1, 1). Document 01, "Four operations".
+--   Settled B t before after n   that, n being the total
+--   Workable m t b               the later rows allow it
+--   Sound m T L                  lists as they come of a sheet taken apart, their numbers in range
+--   SlackGiven, Slacks           what taking the slacks needs and leaves
 -- Assumes nothing.
 use Prim.Native.Nat.{ℕ, _+_, _-_, _≤_, _<_}
 use mathlib.Core.Path.{_≡_}
@@ -25,7 +29,6 @@ pub record Workable (m t : ℕ) (b : Buffers) : Type 0 where
   pub lengths : RightLengths b
   pub later : (k l : ℕ) → t < k → k ≤ l → l ≤ m → tableOf m (b .cells) k l ≤ limit
 
--- lists as decode leaves them, their numbers in range
 pub record Sound (m T : ℕ) (L : Lists) : Type 0 where
   pub lengths : Lengths 64 2080 L
   pub range : InRange (numbersIn m T L)

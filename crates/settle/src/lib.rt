@@ -31,7 +31,7 @@ fn slack(train: Train, departures: &[u32], driving: &[u32]) -> u32
     departures[k] - departures[feeder] - driving[feeder]
 }
 
-// By station from 2; train 1 has no feeder.
+// The slack by station, from 2; entry 1 is 0, since train 1 has no feeder.
 fn slacks(m: u32, departures: &[u32], driving: &[u32]) -> [u32; 64]
     requires { ⌜ (m ≤ 64) × ((i : ℕ) → 2 ≤ i → i ≤ m → SlackGiven i (now departures) (now driving))
         ⌝ }
@@ -47,7 +47,8 @@ fn slacks(m: u32, departures: &[u32], driving: &[u32]) -> [u32; 64]
     list
 }
 
-// Rows, decisions, delays; the total is the first cell.
+// Works the rows of `last` and of the trains before it, stores decisions and delays as read off the
+// cells, and answers the first cell, which is the total.
 fn settle(
     m: u32,
     last: Train,

@@ -1,4 +1,6 @@
--- What the steps of the walk need and leave.
+-- What the steps of the walk need and leave. Document 01, "Four operations", report: comparing the two choices.
+--   StepGiven, Stepped   one station
+--   WalkGiven            the whole walk; what it leaves is Walked
 -- Assumes nothing.
 use Prim.Native.Nat.{ℕ, _-_, _≤_, _<_}
 use mathlib.Core.Path.{_≡_}

@@ -20,12 +20,13 @@ use cells::times::excess_at;
 use cells::times::period_at;
 use rail::Train;
 
-// A decision as document 01 shows it.
+// Decisions as document 01 shows them.
 const KEEP: u8 = 1;
 
 const GO: u8 = 0;
 
-// Keep at the station that `train` leaves, on the run from `first`, `train` then arriving so late.
+// What keep costs at the station that `train` leaves, on the run from `first`, if `train` then
+// arrives so late.
 fn keep_cost(cells: &[u64], m: u32, first: Train, train: Train, late: u64, sums: &[u32]) -> u64
     requires { ⌜ SumsGiven m (now sums) × (length (now cells) ≡ 4096) × CellsInRange m (now cells) ×
         (1 ≤ first .0) × (first .0 ≤ train .0) × (train .0 ≤ m) × (late ≤ latest) ⌝ }
@@ -35,7 +36,7 @@ fn keep_cost(cells: &[u64], m: u32, first: Train, train: Train, late: u64, sums:
     cost(leaving(sums, m, first, train), late) + cell_at(cells, m, first, train.reaches())
 }
 
-// Go at that station.
+// What go costs there.
 fn go_cost(cells: &[u64], m: u32, first: Train, train: Train, period: &[u32], sums: &[u32]) -> u64
     requires { ⌜ SumsGiven m (now sums) × PeriodGiven m (now period) × (length (now cells) ≡ 4096) ×
         CellsInRange m (now cells) × (1 ≤ first .0) × (first .0 < train .0) × (train .0 ≤ m) ⌝ }
