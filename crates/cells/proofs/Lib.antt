@@ -1,5 +1,4 @@
 pub mod Places
-pub mod Held
 pub mod Leavers
 pub mod Bounded
 pub mod Summing

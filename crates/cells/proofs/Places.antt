@@ -1,13 +1,15 @@
--- Laws of where cells stand: within what is lent, row after row, a row without gaps; and the table of a list of cells.
--- Nothing else reads the definition of a place.
+-- Laws of where cells stand: within what is lent, row after row, a row without gaps, no two in one place; and the table
+-- of a list of cells. Nothing else reads the definition of a place but the proof of the function that works it out.
 -- Assumes nothing.
 use mathlib.Core.Path.{_≡_, refl}
 use mathlib.Core.List.{List}
-use Prim.Native.Nat.{ℕ, _+_, _-_, _*_, _≤_, _<_}
+use mathlib.Core.Logic.{_⊎_, inl, inr}
+use Prim.Native.Nat.{ℕ, _+_, _-_, _*_, _/_, _%_, _≤_, _<_}
 use native.Mathlib.Omega.{arith}
 use lib.ListN.{getD}
 use Rattle.lists.proofs.Choice.{below-yes, below-no}
-use Rattle.cells.specs.Place.{square, place, tableOf}
+use Rattle.lists.proofs.Order.{lt-or-ge}
+use Rattle.cells.specs.Place.{square, place, tableOf, InUse}
 
 -- ---- the square
 
@@ -31,11 +33,6 @@ module _ (m k l : ℕ) (first : 1 ≤ k) (run : k ≤ l) (last : l ≤ m) (most 
   unfolding place square
   place-after j i a b = omega arith
 
-  -- two cells of one row stand apart
-  pub place-apart : (i : ℕ) → l < i → place m k l < place m k i
-  unfolding place square
-  place-apart i a = omega arith
-
 -- two cells that share a place are one
 pub place-one : (m k l j i : ℕ) → m ≤ 64 → 1 ≤ k → k ≤ l → l ≤ m → 1 ≤ j → j ≤ i → i ≤ m → place m k l ≡ place m j i
     → (k ≡ j) × (l ≡ i)
@@ -46,6 +43,40 @@ place-one m k l j i few a b c u v w e = (omega arith, omega arith)
 pub row-fits : (m k : ℕ) → 1 ≤ k → k ≤ m → m ≤ 64 → place m k k + (m + 1 - k) ≤ 4096
 unfolding place square
 row-fits m k first last most = omega arith
+
+-- ---- places in use
+
+-- within 64 columns no two cells share a place
+module _ (m t p : ℕ) (few : m ≤ 64) where
+  in-use-row : (u : InUse m t p) → u .row ≡ p / 64 + 1
+  unfolding place square
+  in-use-row u = omega (arith, u .cell .stands, u .least, u .cell .run, u .cell .last)
+
+  in-use-column : (u : InUse m t p) → u .cell .column ≡ p % 64 + 1
+  unfolding place square
+  in-use-column u = omega (arith, u .cell .stands, u .least, u .cell .run, u .cell .last)
+
+  in-use-here : p / 64 + 1 ≤ t → p / 64 + 1 ≤ p % 64 + 1 → p % 64 + 1 ≤ m → InUse m t p
+  unfolding place square
+  in-use-here a b c =
+      record {
+        row = p / 64 + 1;
+        least = omega arith;
+        most = a;
+        cell = record { column = p % 64 + 1; run = b; last = c; stands = omega arith };
+      }
+
+  pub in-use-or-not : InUse m t p ⊎ ¬ (InUse m t p)
+  in-use-or-not = elim (lt-or-ge t (p / 64 + 1)) [
+    | inl a ↦ inr (λ u. omega (arith, in-use-row u, u .most))
+    | inr a ↦ elim (lt-or-ge (p % 64 + 1) (p / 64 + 1)) [
+      | inl b ↦ inr (λ u. omega (arith, in-use-row u, in-use-column u, u .cell .run))
+      | inr b ↦ elim (lt-or-ge m (p % 64 + 1)) [
+        | inl c ↦ inr (λ u. omega (arith, in-use-column u, u .cell .last))
+        | inr c ↦ inl (in-use-here a b c)
+      ]
+    ]
+  ]
 
 -- ---- the table
 

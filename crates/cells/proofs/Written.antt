@@ -1,55 +1,17 @@
--- Rows worked: every place is that of a cell in use or is not, working leaves one list of cells, and books alike leave
--- the same. A place gives back the row and the column of its cell by division by 64.
+-- Rows worked: working leaves one list of cells, and books alike leave the same.
 -- Assumes nothing.
 use mathlib.Core.Path.{_≡_, refl, ap, sym, subst, _∙_}
 use mathlib.Core.List.{List}
-use mathlib.Core.Logic.{_⊎_, inl, inr}
-use Prim.Native.Nat.{ℕ, _+_, _/_, _%_, _≤_}
+use mathlib.Core.Logic.{inl, inr}
+use Prim.Native.Nat.{ℕ, _≤_}
 use native.Mathlib.Omega.{arith}
 use lib.ListN.{getD}
 use lib.Seq.{ext-getD}
-use Rattle.lists.proofs.Order.{lt-or-ge}
 use Rattle.line.specs.Cells.{Book, Worked}
 use Rattle.line.specs.Alike.{BooksAlike}
 use Rattle.line.proofs.Tables.{worked-for-alike, worked-one}
-use Rattle.cells.specs.Place.{square, place, tableOf, InUse, RowsWorked}
-use Rattle.cells.proofs.Places.{table-in}
-
--- ---- places in use
-
--- within 64 columns no two cells share a place
-module _ (m t p : ℕ) (few : m ≤ 64) where
-  in-use-row : (u : InUse m t p) → u .row ≡ p / 64 + 1
-  unfolding place square
-  in-use-row u = omega (arith, u .cell .stands, u .least, u .cell .run, u .cell .last)
-
-  in-use-column : (u : InUse m t p) → u .cell .column ≡ p % 64 + 1
-  unfolding place square
-  in-use-column u = omega (arith, u .cell .stands, u .least, u .cell .run, u .cell .last)
-
-  in-use-here : p / 64 + 1 ≤ t → p / 64 + 1 ≤ p % 64 + 1 → p % 64 + 1 ≤ m → InUse m t p
-  unfolding place square
-  in-use-here a b c =
-      record {
-        row = p / 64 + 1;
-        least = omega arith;
-        most = a;
-        cell = record { column = p % 64 + 1; run = b; last = c; stands = omega arith };
-      }
-
-  pub in-use-or-not : InUse m t p ⊎ ¬ (InUse m t p)
-  in-use-or-not = elim (lt-or-ge t (p / 64 + 1)) [
-    | inl a ↦ inr (λ u. omega (arith, in-use-row u, u .most))
-    | inr a ↦ elim (lt-or-ge (p % 64 + 1) (p / 64 + 1)) [
-      | inl b ↦ inr (λ u. omega (arith, in-use-row u, in-use-column u, u .cell .run))
-      | inr b ↦ elim (lt-or-ge m (p % 64 + 1)) [
-        | inl c ↦ inr (λ u. omega (arith, in-use-column u, u .cell .last))
-        | inr c ↦ inl (in-use-here a b c)
-      ]
-    ]
-  ]
-
--- ---- rows worked
+use Rattle.cells.specs.Place.{tableOf, InUse, RowsWorked}
+use Rattle.cells.proofs.Places.{in-use-or-not, table-in}
 
 -- two lists that keep the promise are equal
 module _ (B : Book) (t : ℕ) (before after after′ : List ℕ) (few : B .trains ≤ 64)

@@ -40,6 +40,6 @@ pub record Summed (m : ℕ) (passengers sums : List ℕ) : Type 0 where
   pub summed : (k l : ℕ) → 1 ≤ k → k ≤ l → l ≤ m → SumAt m passengers sums k l
 
 -- by train l, those who board at l or later and leave
-pub record Wholes (m : ℕ) (sums whole : List ℕ) : Type 0 where
-  pub long : length whole ≡ 64
-  pub held : (l : ℕ) → 1 ≤ l → l ≤ m → nth whole l ≡ boardedIn m sums l l
+pub record Boarders (m : ℕ) (sums boarding : List ℕ) : Type 0 where
+  pub long : length boarding ≡ 64
+  pub held : (l : ℕ) → 1 ≤ l → l ≤ m → nth boarding l ≡ boardedIn m sums l l

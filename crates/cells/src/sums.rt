@@ -6,7 +6,7 @@ ghost use lib.ListN.{length};
 ghost use Rattle.line.specs.Ranges.{everyone};
 ghost use Rattle.sheet.specs.Pairs.{IsPair};
 ghost use Rattle.cells.specs.Given.{leavingIn, boardedIn, SumsGiven};
-ghost use Rattle.cells.specs.Summed.{pairIn, Fields, ColumnSummed, Summed, Wholes};
+ghost use Rattle.cells.specs.Summed.{pairIn, Fields, ColumnSummed, Summed, Boarders};
 use crate::place::square;
 use crate::times::wide;
 use rail::Station;
@@ -80,16 +80,16 @@ pub fn boarded(sums: &[u32], m: u32, first: Train, train: Train) -> u64
 }
 
 // By train, those who board it or a later one.
-pub fn wholes(sums: &[u32], m: u32) -> [u64; 64]
+pub fn boarders(sums: &[u32], m: u32) -> [u64; 64]
     requires { ⌜ SumsGiven m (now sums) ⌝ }
-    ensures { λ r. ⌜ Wholes m (now (sums .entry)) r ⌝ }
+    ensures { λ r. ⌜ Boarders m (now (sums .entry)) r ⌝ }
 {
-    let mut whole = [0u64; 64];
+    let mut list = [0u64; 64];
     let mut i = 1;
     while i <= m {
         let train = Train(i);
-        whole[train.index()] = boarded(sums, m, train, train);
+        list[train.index()] = boarded(sums, m, train, train);
         i += 1;
     }
-    whole
+    list
 }

@@ -7,12 +7,12 @@ use native.Mathlib.Omega.{arith}
 use Rattle.lists.proofs.Run.{padded-length, padded-nth}
 use Rattle.sheet.specs.Format.{trainsOf, periodOf, departureOf, drivingOf, delayOf, passengersOf, passengerColumn}
 use Rattle.sheet.specs.Format.{pairsOf}
-use Rattle.sheet.specs.Numbers.{lists, numbersOf, numbersIn}
+use Rattle.sheet.specs.Numbers.{numbersOf, numbersIn}
 use Rattle.sheet.specs.Checks.{Room}
 use Rattle.sheet.specs.Accepted.{SameNumbers}
 use Rattle.sheet.proofs.Lengths.{layout, bytes-bits, pairs-le, train-within, passengers-within}
 use Rattle.decoder.specs.declared.Columns.{Columns}
-use Rattle.decoder.specs.Decode.{ColumnRoom, Head, ColumnsOf}
+use Rattle.decoder.specs.Decode.{ColumnRoom, Head, listsOf, ColumnsOf}
 
 module _ (s : List ℕ) (m : ℕ) (h : Head s m) where
   -- the column of the trains whose first field is the w bits from bit a
@@ -35,7 +35,7 @@ module _ (s : List ℕ) (m : ℕ) (h : Head s m) where
       }
 
   module _ (c : Columns) (held : ColumnsOf s c) where
-    pub columns-room : Room m (lists (c .departures) (c .driving) (c .delays) (c .passengers))
+    pub columns-room : Room m (listsOf c)
     columns-room =
         let n = h .most in
         record {
@@ -50,7 +50,7 @@ module _ (s : List ℕ) (m : ℕ) (h : Head s m) where
         }
 
     pub columns-same : SameNumbers
-        (numbersIn m (periodOf s) (lists (c .departures) (c .driving) (c .delays) (c .passengers)))
+        (numbersIn m (periodOf s) (listsOf c))
         (numbersOf s)
     columns-same =
         let n : trainsOf s ≤ 64 = omega (arith, h .trains, h .most) in

@@ -14,6 +14,7 @@ use Rattle.rail.specs.declared.Verdict.{Verdict}
 use Rattle.rail.specs.Verdict.{ifFine}
 use Rattle.sheet.specs.declared.format.Column.{Column}
 use Rattle.sheet.specs.Format.{trainsOf, periodOf, departureOf, drivingOf, delayOf, passengersOf, bytesOf, pairsOf}
+use Rattle.sheet.specs.Numbers.{Lists, lists}
 use Rattle.decoder.specs.declared.Columns.{Columns}
 use Rattle.decoder.specs.declared.Decoded.{Decoded}
 use Rattle.decoder.specs.Answers.{readingOf}
@@ -29,6 +30,9 @@ pub record Head (s : List ℕ) (m : ℕ) : Type 0 where
   pub least : 1 ≤ m
   pub most : m ≤ 64
   pub long : length s ≡ bytesOf m
+
+abbrev pub listsOf : Columns → Lists
+listsOf c = lists (c .departures) (c .driving) (c .delays) (c .passengers)
 
 -- the columns are those of the sheet, fields first, the rest 0
 pub record ColumnsOf (s : List ℕ) (c : Columns) : Type 0 where

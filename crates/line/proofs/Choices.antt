@@ -37,6 +37,23 @@ module _ (x y : ℕ) where
     | inr l ↦ keep-not-go (sym (below-no Go Keep l) ∙ h)
   ]
 
+  -- by the tests of code
+  pub lesser-of-go-less : (e : ℕ) → 0 < e → y < x → y ≡ lesser e x y
+  lesser-of-go-less zero a b = absurd (omega arith)
+  lesser-of-go-less (suc e) a b = omega arith
+
+  pub lesser-of-keep-le : (e : ℕ) → x ≤ y → x ≡ lesser e x y
+  lesser-of-keep-le zero b = refl
+  lesser-of-keep-le (suc e) b = omega arith
+
+  pub prefer-of-go-less : (e : ℕ) → 0 < e → y < x → prefer e x y ≡ Go
+  prefer-of-go-less zero a b = absurd (omega arith)
+  prefer-of-go-less (suc e) a b = below-yes Go Keep b
+
+  pub prefer-of-keep-le : (e : ℕ) → x ≤ y → prefer e x y ≡ Keep
+  prefer-of-keep-le zero b = refl
+  prefer-of-keep-le (suc e) b = below-no Go Keep b
+
 module _ (B : Book) (c : Table) (k l : ℕ) where
   pub cell-by-le-keep : cellBy B c k l ≤ keepCost B c k l
   unfolding cellBy

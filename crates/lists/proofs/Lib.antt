@@ -4,3 +4,4 @@ pub mod Choice
 pub mod Run
 pub mod Fill
 pub mod Splice
+pub mod Held

@@ -40,7 +40,7 @@ use Rattle.planner.specs.declared.Answer.{Answer}
 use Rattle.settle.specs.Buffers.{Buffers, RightLengths}
 use Rattle.planner.specs.Plan.{answerNumber, answerTotal, buffersVerdict, planVerdict}
 use Rattle.planner.specs.Plan.{Planned, Plan}
-use Rattle.planner.specs.Demands.{SameLengths, Blanked, RefusedBy, Answered, Demand1, policyIn}
+use Rattle.planner.specs.Demands.{SameLengths, Blanked, Carries, Answered, Demand1, policyIn}
 use Rattle.planner.specs.Demands.{LeastPlan, Demand2}
 use Rattle.settle.proofs.Lines.{line-in-range}
 use Rattle.planner.proofs.Refusals.{right-of-fine, plan-of-sheet, plan-of-buffers, accepted-of-plan}
@@ -56,7 +56,7 @@ module _ (s : List ℕ) (before after : Buffers) (a : Answer) (h : Plan s before
   zero-of-fine : planVerdict s before ≡ Fine → answerNumber a ≡ 0
   zero-of-fine fine = h .number ∙ ap numberIn fine
 
-  refused-by : (r : Refusal) → planVerdict s before ≡ Refused r → RefusedBy r a
+  refused-by : (r : Refusal) → planVerdict s before ≡ Refused r → Carries r a
   refused-by r e =
       record {
         number = h .number ∙ ap numberIn e;

@@ -25,8 +25,7 @@ use Rattle.line.proofs.Worked.{decided-is-plan}
 use Rattle.sheet.specs.Numbers.{numbersOf}
 use Rattle.cells.specs.Place.{place, tableOf, InUse, RowsWorked}
 use Rattle.cells.specs.Shown.{shown}
-use Rattle.cells.proofs.Places.{place-lt, place-one, table-in, table-past}
-use Rattle.cells.proofs.Written.{in-use-or-not}
+use Rattle.cells.proofs.Places.{place-lt, place-one, in-use-or-not, table-in, table-past}
 use Rattle.settle.specs.LineOf.{lineOf}
 use Rattle.planner.specs.declared.Answer.the-variants.{Accepted, Refused as AnswerRefused}
 use Rattle.settle.specs.Buffers.{Buffers, buffers}

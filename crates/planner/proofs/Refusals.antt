@@ -13,12 +13,12 @@ use Rattle.sheet.specs.Checks.{sheetVerdict}
 use Rattle.sheet.specs.Accepted.{AcceptedSheet}
 use Rattle.sheet.proofs.Facts.{accepted-of-fine}
 use Rattle.settle.specs.Buffers.{Buffers, RightLengths}
-use Rattle.planner.specs.Plan.{lengthsVerdict, buffersVerdict, planVerdict}
+use Rattle.planner.specs.Plan.{bufferLengthsVerdict, buffersVerdict, planVerdict}
 
 -- ---- the buffers
 
 pub right-of-fine : (b : Buffers) → buffersVerdict b ≡ Fine → RightLengths b
-unfolding lengthsVerdict
+unfolding bufferLengthsVerdict
 right-of-fine b e =
     let x = then-fine _ _ e in
     let y = then-fine _ _ (x .1) in
@@ -26,7 +26,7 @@ right-of-fine b e =
     record { cells = is-same _ _ _ (x .0); decisions = is-same _ _ _ (y .0); delays = is-same _ _ _ (z .0) }
 
 pub fine-of-right : (b : Buffers) → RightLengths b → buffersVerdict b ≡ Fine
-unfolding lengthsVerdict
+unfolding bufferLengthsVerdict
 fine-of-right b h =
     fine-then (fine-same _ _ _ (h .cells))
     (fine-then (fine-same _ _ _ (h .decisions))
@@ -34,7 +34,7 @@ fine-of-right b h =
     refl))
 
 pub buffers-refusal : (b : Buffers) (r : Refusal) → buffersVerdict b ≡ Refused r → BufferLength ≡ r
-unfolding lengthsVerdict
+unfolding bufferLengthsVerdict
 buffers-refusal b =
     only-then _ _ _ (only-unless _ _ _ _ refl)
     (only-then _ _ _ (only-unless _ _ _ _ refl)

@@ -109,34 +109,34 @@ line-of-sheet-b13 = lines-same 3 13 _ _ _ _ _ _ _ _ refl refl refl refl
 -- ---- what plan leaves on a sheet whose line is M, where rows are printed
 
 -- the printed cells; for l = m + 1 the value is 0
-cellsIn : ℕ → Rows → Table
-cellsIn m rows k l = ifBelow m l 0 (tableFrom rows k l)
+printedCells : ℕ → Rows → Table
+printedCells m rows k l = ifBelow m l 0 (tableFrom rows k l)
 
-abbrev policyBelow : Line → Rows → Policy
-policyBelow M rows = decide (bookOf M) (cellsIn (M .trains) rows)
+abbrev printedPolicy : Line → Rows → Policy
+printedPolicy M rows = decide (bookOf M) (printedCells (M .trains) rows)
 
 -- What is printed for a line: each cell is what the rule makes of the others, and the rest is read off the cells. All
 -- four are computed.
 record Printed (M : Line) (n : ℕ) (ds ys : List ℕ) (rows : Rows) : Type 0 where
-  rule : pairRows (M .trains) (cellsIn (M .trains) rows)
-      ≡ pairRows (M .trains) (cellBy (bookOf M) (cellsIn (M .trains) rows))
-  corner : cellsIn (M .trains) rows 1 1 ≡ n
-  decisions : listed (λ i. ifBelow 1 i (byteOf (policyBelow M rows i)) 0) 1 (M .trains) ≡ ds
-  delays : listed (arrival (M .running) (policyBelow M rows)) 1 (M .trains) ≡ ys
+  rule : pairRows (M .trains) (printedCells (M .trains) rows)
+      ≡ pairRows (M .trains) (cellBy (bookOf M) (printedCells (M .trains) rows))
+  corner : printedCells (M .trains) rows 1 1 ≡ n
+  decisions : listed (λ i. ifBelow 1 i (byteOf (printedPolicy M rows i)) 0) 1 (M .trains) ≡ ds
+  delays : listed (arrival (M .running) (printedPolicy M rows)) 1 (M .trains) ≡ ys
 
 printed-a : Printed lineA 21 (0 ∷ []) (7 ∷ []) ((21 ∷ []) ∷ [])
 unfolding ifBelow runOf listed sum_from_to_ lineFrom arrival excess departure leaving aboard runFrom excessOn arrivalOn
-    keepCost goCost cellBy choice begins policyBy decide pairRows cellsIn
+    keepCost goCost cellBy choice begins policyBy decide pairRows printedCells
 printed-a = record { rule = refl; corner = refl; decisions = refl; delays = refl }
 
 printed-b : Printed (lineB 10 delaysB) 176 decisionsB (9 ∷ 3 ∷ 0 ∷ []) rowsB
 unfolding ifBelow runOf listed sum_from_to_ lineFrom arrival excess departure leaving aboard runFrom excessOn arrivalOn
-    keepCost goCost cellBy choice begins policyBy decide pairRows cellsIn
+    keepCost goCost cellBy choice begins policyBy decide pairRows printedCells
 printed-b = record { rule = refl; corner = refl; decisions = refl; delays = refl }
 
 printed-b13 : Printed (lineB 13 delaysB) 202 decisionsB13 (9 ∷ 7 ∷ 2 ∷ []) rowsB13
 unfolding ifBelow runOf listed sum_from_to_ lineFrom arrival excess departure leaving aboard runFrom excessOn arrivalOn
-    keepCost goCost cellBy choice begins policyBy decide pairRows cellsIn
+    keepCost goCost cellBy choice begins policyBy decide pairRows printedCells
 printed-b13 = record { rule = refl; corner = refl; decisions = refl; delays = refl }
 
 -- a function that makes the places 1 to m of a list, and the list
@@ -154,10 +154,10 @@ module _ (s : List ℕ) (M : Line) (n : ℕ) (ds ys : List ℕ) (rows : Rows) (f
   L = lineOf (numbersOf s)
 
   abbrev q : Policy
-  q = policyBelow M rows
+  q = printedPolicy M rows
 
-  worked : Worked (bookOf M) (M .trains) (λ k l. 0) (cellsIn (M .trains) rows)
-  unfolding cellsIn
+  worked : Worked (bookOf M) (M .trains) (λ k l. 0) (printedCells (M .trains) rows)
+  unfolding printedCells
   worked =
       record {
         last = λ k. below-yes _ _ (omega arith);
@@ -193,7 +193,7 @@ module _ (s : List ℕ) (M : Line) (n : ℕ) (ds ys : List ℕ) (rows : Rows) (f
   -- both tables are worked for M
   cells-are : (k l : ℕ) → 1 ≤ k → k ≤ l → l ≤ M .trains
       → getD (after .cells) (place (M .trains) k l) 0 ≡ tableFrom rows k l
-  unfolding tableOf cellsIn
+  unfolding tableOf printedCells
   cells-are k l u v w =
       let anew = worked-for-alike (L .trains) (bookOf L) (bookOf M) _ _ (books-of-lines 1 L M alike)
       (plan .cells .worked) in

@@ -19,15 +19,14 @@ use Rattle.line.specs.Cells.{bookOf, decide}
 use Rattle.line.proofs.Alike.{books-of-lines}
 use Rattle.line.proofs.Worked.{decided-total, decided-is-plan}
 use Rattle.sheet.specs.Format.{trainsOf, periodOf, bytesOf}
-use Rattle.sheet.specs.Numbers.{Lists, lists, numbersOf, numbersIn}
+use Rattle.sheet.specs.Numbers.{numbersOf, numbersIn}
 use Rattle.sheet.specs.Checks.{sheetVerdict}
 use Rattle.sheet.specs.Accepted.{AcceptedSheet, SameNumbers}
 use Rattle.sheet.proofs.Facts.{accepted-of-fine}
 use Rattle.sheet.proofs.Meaning.{in-range-same}
 use Rattle.decoder.specs.declared.Reading.the-variants.{Accepted as ReadAccepted}
-use Rattle.decoder.specs.declared.Columns.{Columns}
 use Rattle.decoder.specs.declared.Decoded.{Decoded}
-use Rattle.decoder.specs.Decode.{ColumnsOf, Decoding}
+use Rattle.decoder.specs.Decode.{listsOf, ColumnsOf, Decoding}
 use Rattle.decoder.proofs.Answers.{accepted-fine}
 use Rattle.decoder.proofs.Outcome.{decoding-columns}
 use Rattle.decoder.proofs.Held.{columns-same}
@@ -55,9 +54,6 @@ settled-planned L before after n S =
       delays = S .walked .delays;
       cells = S .cells;
     }
-
-abbrev pub listsOf : Columns → Lists
-listsOf c = lists (c .departures) (c .driving) (c .delays) (c .passengers)
 
 module _ (s : List ℕ) (d : Decoded) (m T : ℕ) (told : Decoding (sheetVerdict s) s d)
     (answer : d .answer ≡ ReadAccepted m T) where

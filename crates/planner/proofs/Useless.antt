@@ -10,38 +10,38 @@ use Rattle.lists.proofs.Order.{zero-not-one}
 use Rattle.lists.proofs.Run.{padded-nth}
 use Rattle.cells.specs.Shown.{shown}
 use Rattle.planner.specs.Sheets.{decisionsB, decisionsB13}
-use Rattle.planner.specs.Useless.{RefusesAll, SameDecisions, AllKeep, DoesNothing, StaysBlank}
+use Rattle.planner.specs.Useless.{RefusesAllBreaks, SameDecisionsBreak, AllKeepBreaks, DoesNothingBreaks, StaysBlankBreaks}
 use Rattle.planner.proofs.Sheets.{answers-b, answers-b13}
 
 -- byte 2 of 64, the first three of which are given
 byte-two : (bytes ds : List ℕ) → bytes ≡ padded 64 3 (nth ds) → nth bytes 2 ≡ nth ds 2
 byte-two bytes ds e = padded-nth bytes 64 3 (nth ds) e (omega arith) 2 (omega arith) (omega arith)
 
-pub refuses-all : RefusesAll
-refuses-all before after r right h =
+pub refuses-all-breaks : RefusesAllBreaks
+refuses-all-breaks before after r right h =
     let answer = answers-b before after _ right h .answer in
     zero-not-one (cc)
 
-pub same-decisions : SameDecisions
-same-decisions before after before′ after′ a a′ right right′ h h′ same =
+pub same-decisions-break : SameDecisionsBreak
+same-decisions-break before after before′ after′ a a′ right right′ h h′ same =
     let zero = byte-two (after .decisions) decisionsB (answers-b before after a right h .decisions) in
     let one = byte-two (after′ .decisions) decisionsB13 (answers-b13 before′ after′ a′ right′ h′ .decisions) in
     zero-not-one (sym zero ∙ ap (λ (l : List ℕ). nth l 2) same ∙ one)
 
-pub all-keep : AllKeep
+pub all-keep-breaks : AllKeepBreaks
 unfolding shown
-all-keep before after a right h same =
+all-keep-breaks before after a right h same =
     let zero = byte-two (after .decisions) decisionsB (answers-b before after a right h .decisions) in
     let one : nth (after .decisions) 2 ≡ 1
     = padded-nth (after .decisions) 64 3 _ same (omega arith) 2 (omega arith) (omega arith)
     ∙ below-yes _ _ (omega arith) in
     zero-not-one (sym zero ∙ one)
 
-pub does-nothing : DoesNothing
-does-nothing before after a right other h same = other (sym same ∙ answers-b before after a right h .decisions)
+pub does-nothing-breaks : DoesNothingBreaks
+does-nothing-breaks before after a right other h same = other (sym same ∙ answers-b before after a right h .decisions)
 
-pub stays-blank : StaysBlank
-stays-blank before after a right blank h same =
+pub stays-blank-breaks : StaysBlankBreaks
+stays-blank-breaks before after a right blank h same =
     let zero = byte-two (after .decisions) decisionsB (answers-b before after a right h .decisions) in
     let two : nth (after .decisions) 2 ≡ 2 = ap (λ (l : List ℕ). nth l 2) (same ∙ blank) in
     absurd (omega (arith, zero, two))

@@ -47,7 +47,7 @@ pub record Blanked (before after : Buffers) : Type 0 where
   pub delays : after .delays ≡ replicate 64 0
   pub cells : after .cells ≡ before .cells
 
-pub record RefusedBy (r : Refusal) (a : Answer) : Type 0 where
+pub record Carries (r : Refusal) (a : Answer) : Type 0 where
   pub number : answerNumber a ≡ numberOf r
   pub place : answerPlace a ≡ placeOf r
   pub total : answerTotal a ≡ 0
@@ -58,7 +58,7 @@ pub record Answered (s : List ℕ) (before after : Buffers) (a : Answer) : Type 
   pub accepted-only : answerNumber a ≡ 0 → RightLengths before × AcceptedSheet s
   pub accepted-place : answerNumber a ≡ 0 → answerPlace a ≡ 0
   -- Bad input is refused by number, in a fixed order of checks: for the first check that fails.
-  pub refuses : (r : Refusal) → planVerdict s before ≡ Refused r → RefusedBy r a
+  pub refuses : (r : Refusal) → planVerdict s before ≡ Refused r → Carries r a
   -- A refused plan, its buffers being of the right length, blanks the decisions and the delays, and changes neither
   -- sheet nor working cells. The sheet is lent to be read.
   pub blanks : RightLengths before → ¬ (answerNumber a ≡ 0) → Blanked before after

@@ -45,15 +45,15 @@ answerTotal (Accepted n) = n
 answerTotal (AnswerRefused r) = 0
 
 -- 4,096 working cells, 64 decision bytes, 64 delays
-unfoldable pub lengthsVerdict : ℕ → ℕ → ℕ → Verdict
-lengthsVerdict cells decisions delays =
+unfoldable pub bufferLengthsVerdict : ℕ → ℕ → ℕ → Verdict
+bufferLengthsVerdict cells decisions delays =
     (refuse BufferLength unless cells is 4096)
     andThen (refuse BufferLength unless decisions is 64)
     andThen (refuse BufferLength unless delays is 64)
     andThen Fine
 
 abbrev pub buffersVerdict : Buffers → Verdict
-buffersVerdict b = lengthsVerdict (length (b .cells)) (length (b .decisions)) (length (b .delays))
+buffersVerdict b = bufferLengthsVerdict (length (b .cells)) (length (b .decisions)) (length (b .delays))
 
 unfoldable pub planVerdict : List ℕ → Buffers → Verdict
 planVerdict s b = buffersVerdict b andThen sheetVerdict s

@@ -1,10 +1,10 @@
 -- The useless versions of plan. Document 01, "What the contracts have to say": each of them breaks the contract, on
 -- sheet B with buffers of the right lengths.
---   RefusesAll      one that refuses all sheets: sheet B is never refused
---   SameDecisions   one with the same decisions for all lines: on sheet B they differ from those on sheet B with T 13,
---   AllKeep         and are not keep throughout
---   DoesNothing     one that does nothing: decisions other than the plan's do not stay as they were,
---   StaysBlank      nor do blank ones
+--   RefusesAllBreaks      one that refuses all sheets: sheet B is never refused
+--   SameDecisionsBreak   one with the same decisions for all lines: on sheet B they differ from those on sheet B with T 13,
+--   AllKeepBreaks         and are not keep throughout
+--   DoesNothingBreaks     one that does nothing: decisions other than the plan's do not stay as they were,
+--   StaysBlankBreaks      nor do blank ones
 -- Assumes nothing.
 use Prim.Native.Nat.{ℕ}
 use mathlib.Core.Path.{_≡_}
@@ -19,14 +19,14 @@ use Rattle.settle.specs.Buffers.{Buffers, RightLengths}
 use Rattle.planner.specs.Plan.{Plan}
 use Rattle.planner.specs.Sheets.{sheetB, sheetB13, decisionsB}
 
-abbrev pub RefusesAll : Type 0
-RefusesAll =
+abbrev pub RefusesAllBreaks : Type 0
+RefusesAllBreaks =
     (before after : Buffers) (r : Refusal)
     → RightLengths before
     → ¬ (Plan sheetB before after (AnswerRefused r))
 
-abbrev pub SameDecisions : Type 0
-SameDecisions =
+abbrev pub SameDecisionsBreak : Type 0
+SameDecisionsBreak =
     (before after before′ after′ : Buffers) (a a′ : Answer)
     → RightLengths before
     → RightLengths before′
@@ -34,23 +34,23 @@ SameDecisions =
     → Plan sheetB13 before′ after′ a′
     → ¬ (after .decisions ≡ after′ .decisions)
 
-abbrev pub AllKeep : Type 0
-AllKeep =
+abbrev pub AllKeepBreaks : Type 0
+AllKeepBreaks =
     (before after : Buffers) (a : Answer)
     → RightLengths before
     → Plan sheetB before after a
     → ¬ (after .decisions ≡ shown 3 (λ (i : ℕ). Keep))
 
-abbrev pub DoesNothing : Type 0
-DoesNothing =
+abbrev pub DoesNothingBreaks : Type 0
+DoesNothingBreaks =
     (before after : Buffers) (a : Answer)
     → RightLengths before
     → ¬ (before .decisions ≡ padded 64 3 (nth decisionsB))
     → Plan sheetB before after a
     → ¬ (after .decisions ≡ before .decisions)
 
-abbrev pub StaysBlank : Type 0
-StaysBlank =
+abbrev pub StaysBlankBreaks : Type 0
+StaysBlankBreaks =
     (before after : Buffers) (a : Answer)
     → RightLengths before
     → before .decisions ≡ replicate 64 2

@@ -6,7 +6,7 @@ ghost use Rattle.lists.specs.Choice.{if_then_else_};
 ghost use Rattle.rail.specs.Refusal.{blanksOf};
 ghost use Rattle.settle.specs.Buffers.{buffers};
 ghost use Rattle.planner.specs.Plan.{answerNumber, answerPlace, answerTotal};
-ghost use Rattle.planner.specs.Plan.{lengthsVerdict, Plan};
+ghost use Rattle.planner.specs.Plan.{bufferLengthsVerdict, Plan};
 use decoder::Reading;
 use decoder::decode;
 use lists::fill_u8;
@@ -56,7 +56,7 @@ impl Answer {
 
 // The lengths of the lent buffers.
 fn check_buffers(cells: usize, decisions: usize, delays: usize) -> Verdict
-    ensures { λ r. ⌜ r ≡ lengthsVerdict cells decisions delays ⌝ }
+    ensures { λ r. ⌜ r ≡ bufferLengthsVerdict cells decisions delays ⌝ }
 {
     if cells != 4096 {
         return Verdict::Refused(Refusal::BufferLength);

@@ -1,4 +1,3 @@
-pub mod Least
 pub mod Runs
 pub mod Filling
 pub mod Working

@@ -1,5 +1,5 @@
 -- The run from train k, station by station: the delays upward, what go costs downward.
---   StayedTo   the stations from k to i - 1 are done, train i - 1 having arrived late by `late`
+--   KeptTo   the stations from k to i - 1 are done, train i - 1 having arrived late by `late`
 --   GoneTo     the stations after i are done, `left` being all who board at k or later and leave a train after i
 -- Assumes nothing.
 use mathlib.Core.Path.{_≡_, ap, sym, _∙_}
@@ -15,9 +15,9 @@ use Rattle.line.specs.Ranges.{latest, everyone}
 use Rattle.line.proofs.Along.{excess-on-start, excess-on-next, arrival-on-departed}
 use Rattle.line.proofs.Bounds.{arrival-on-le}
 use Rattle.cells.specs.Given.{leavingIn, boardedIn, aboardIn, runningIn, RunningGiven, SumsGiven}
-use Rattle.rows.specs.Steps.{Stays, Goes}
+use Rattle.rows.specs.Steps.{Keeps, Goes}
 use Rattle.cells.proofs.Bounded.{running-in-range}
-use Rattle.cells.proofs.Held.{Held, held-set, nth-set-other}
+use Rattle.lists.proofs.Held.{Held, held-set, nth-set-other}
 use Rattle.cells.proofs.Leavers.{boarded-none, boarded-first, boarded-le, boarded-aboard}
 
 -- ---- upward
@@ -29,7 +29,7 @@ module _ (m k : ℕ) (slack source sums : List ℕ) where
   abbrev keeps : ℕ → ℕ
   keeps l = leavingIn sums k l * arrivalOn R k l
 
-  pub record StayedTo (excess keep : List ℕ) (late i : ℕ) : Type 0 where
+  pub record KeptTo (excess keep : List ℕ) (late i : ℕ) : Type 0 where
     pub from : k ≤ i
     pub most : i ≤ m + 1
     pub long-excess : length excess ≡ 64
@@ -40,8 +40,8 @@ module _ (m k : ℕ) (slack source sums : List ℕ) where
     pub excesses : Held excess (excessOn R k) k i
     pub kept : Held keep keeps k i
 
-  pub stayed-start : (zeros : List ℕ) → length zeros ≡ 64 → k ≤ m → StayedTo zeros zeros 0 k
-  stayed-start zeros long last =
+  pub kept-start : (zeros : List ℕ) → length zeros ≡ 64 → k ≤ m → KeptTo zeros zeros 0 k
+  kept-start zeros long last =
       record {
         from = le-refl k;
         most = omega arith;
@@ -55,10 +55,10 @@ module _ (m k : ℕ) (slack source sums : List ℕ) where
 
   -- how late train i arrives
   module _ (given : RunningGiven m slack source) (first : 1 ≤ k) (excess keep : List ℕ) (late i : ℕ)
-      (S : StayedTo excess keep late i) (last : i ≤ m) (over arrives : ℕ) (e : over ≡ late - nth slack i)
+      (S : KeptTo excess keep late i) (last : i ≤ m) (over arrives : ℕ) (e : over ≡ late - nth slack i)
       (f : arrives ≡ over + nth source i) where
-    pub over-le : over ≤ latest
-    over-le = omega (arith, S .small)
+    pub excess-le : over ≤ latest
+    excess-le = omega (arith, S .small)
 
     pub arrives-on : arrives ≡ arrivalOn R k i
     arrives-on =
@@ -69,9 +69,9 @@ module _ (m k : ℕ) (slack source sums : List ℕ) where
     arrives-le =
         le-trans (le-of-eq arrives-on) (arrival-on-le m R (running-in-range m slack source given) k i last)
 
-    pub stayed-next : (at cost : ℕ) → at ≡ i - 1 → cost ≡ leavingIn sums k i * arrives
-        → StayedTo (set excess at over) (set keep at cost) arrives (i + 1)
-    stayed-next at cost here g =
+    pub kept-next : (at cost : ℕ) → at ≡ i - 1 → cost ≡ leavingIn sums k i * arrives
+        → KeptTo (set excess at over) (set keep at cost) arrives (i + 1)
+    kept-next at cost here g =
         let few = given .trains in
         let pos : 1 ≤ i = omega (arith, S .from) in
         record {
@@ -87,13 +87,13 @@ module _ (m k : ℕ) (slack source sums : List ℕ) where
               (g ∙ ap (λ (x : ℕ). leavingIn sums k i * x) arrives-on) (λ l a b n. S .kept l a (omega arith));
         }
 
-  pub stayed-end : (excess keep : List ℕ) (late i : ℕ) → StayedTo excess keep late i → m < i
-      → Stays m k slack source sums excess keep
-  stayed-end excess keep late i S end =
+  pub kept-end : (excess keep : List ℕ) (late i : ℕ) → KeptTo excess keep late i → m < i
+      → Keeps m k slack source sums excess keep
+  kept-end excess keep late i S end =
       record {
         long-excess = S .long-excess;
         long-keep = S .long-keep;
-        late = λ l a b. S .excesses l a (omega arith);
+        excesses = λ l a b. S .excesses l a (omega arith);
         kept = λ l a b. S .kept l a (omega arith);
       }
 
@@ -123,7 +123,7 @@ module _ (m k : ℕ) (period sums : List ℕ) where
       }
 
   module _ (given : SumsGiven m sums) (pos : 1 ≤ k) (go : List ℕ) (left i : ℕ) (G : GoneTo go left i) (after : k < i)
-      (more whole : ℕ) (e : more ≡ left + leavingIn sums k i) (f : whole ≡ boardedIn m sums i i) where
+      (more boarding : ℕ) (e : more ≡ left + leavingIn sums k i) (f : boarding ≡ boardedIn m sums i i) where
     more-is : more ≡ boardedIn m sums k i
     more-is = omega (arith, e, G .leaves, boarded-first m sums k i (G .most))
 
@@ -131,16 +131,16 @@ module _ (m k : ℕ) (period sums : List ℕ) where
     more-le = le-trans (le-of-eq more-is) (boarded-le m sums given k i pos (omega arith) (G .most))
 
     -- those aboard are what is left when those who board at i or later are taken away
-    parts : more ≡ aboardIn m sums k i + whole
+    parts : more ≡ aboardIn m sums k i + boarding
     parts = omega (arith, more-is, boarded-aboard m sums given k i pos (omega arith) (G .most), f)
 
-    pub whole-le : whole ≤ more
-    whole-le = omega (arith, parts)
+    pub boarding-le : boarding ≤ more
+    boarding-le = omega (arith, parts)
 
-    pub aboard-is : more - whole ≡ aboardIn m sums k i
+    pub aboard-is : more - boarding ≡ aboardIn m sums k i
     aboard-is = omega (arith, parts)
 
-    pub gone-next : (at cost minutes : ℕ) → at ≡ i - 1 → minutes ≡ nth period i → cost ≡ (more - whole) * minutes
+    pub gone-next : (at cost minutes : ℕ) → at ≡ i - 1 → minutes ≡ nth period i → cost ≡ (more - boarding) * minutes
         → GoneTo (set go at cost) more (i - 1)
     gone-next at cost minutes here h g =
         let few = given .trains in

@@ -20,9 +20,9 @@ use Rattle.line.proofs.Alike.{cell-by-alike, books-alike-refl}
 use Rattle.line.proofs.Bounds.{arrival-on-le}
 use Rattle.cells.specs.Place.{place, tableOf, InRow, InUse, RowsWorked}
 use Rattle.cells.specs.Given.{aboardIn, bookIn, Given}
-use Rattle.rows.specs.Steps.{Stays, Goes, Diagonal, ceiling, RowRoom, RowFilled, RowWorked}
+use Rattle.rows.specs.Steps.{Keeps, Goes, Diagonal, ceiling, RowRoom, RowFilled, RowWorked}
 use Rattle.cells.proofs.Places.{place-row, place-after, row-fits, table-in, table-past}
-use Rattle.cells.proofs.Held.{nth-set, nth-set-other}
+use Rattle.lists.proofs.Held.{nth-set, nth-set-other}
 use Rattle.cells.proofs.Leavers.{leaving-le, aboard-le}
 use Rattle.cells.proofs.Bounded.{running-in-range}
 
@@ -68,7 +68,7 @@ module _ (m k : ℕ) (cells row : List ℕ) (long : length cells ≡ 4096) (few 
 
 module _ (m k : ℕ) (slack source period sums excess keep go diagonal part cells row : List ℕ)
     (long : length cells ≡ 4096) (few : m ≤ 64) (pos : 1 ≤ k) (last : k ≤ m) (size : length row ≡ m + 1 - k)
-    (S : Stays m k slack source sums excess keep) (G : Goes m k period sums go)
+    (S : Keeps m k slack source sums excess keep) (G : Goes m k period sums go)
     (F : RowFilled k excess keep go diagonal part row) where
   abbrev book : Book
   book = bookIn m slack source period sums
@@ -90,7 +90,7 @@ module _ (m k : ℕ) (slack source period sums excess keep go diagonal part cell
       let at : k + (l - k) ≡ l = omega arith in
       let after : l - k + 1 ≡ l + 1 - k = omega arith in
       here l a (omega arith)
-      ∙ (rw (at, after, S .late l a b, S .kept l a b, sym (here (l + 1) (omega arith) (omega arith))) at
+      ∙ (rw (at, after, S .excesses l a b, S .kept l a b, sym (here (l + 1) (omega arith) (omega arith))) at
       (F .cells (l - k) (omega arith)))
 
   -- where the run begins go is no choice
@@ -235,7 +235,7 @@ worked-end B t before cells diagonal i W e =
 -- ---- a row can be added up
 
 pub row-room : (m k : ℕ) (slack source period sums excess keep go diagonal : List ℕ) → Given m slack source period sums
-    → 1 ≤ k → k ≤ m → Stays m k slack source sums excess keep → Goes m k period sums go → length diagonal ≡ 64
+    → 1 ≤ k → k ≤ m → Keeps m k slack source sums excess keep → Goes m k period sums go → length diagonal ≡ 64
     → ((l : ℕ) → 1 ≤ l → l ≤ m → nth diagonal l ≤ ceiling) → RowRoom k (m + 1 - k) excess keep go diagonal
 row-room m k slack source period sums excess keep go diagonal given pos last S G long small =
     record {

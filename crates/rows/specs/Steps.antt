@@ -16,13 +16,13 @@ use Rattle.line.specs.Cells.{Book, excessOn, arrivalOn, keepCost, lesser}
 use Rattle.line.specs.Ranges.{limit}
 use Rattle.cells.specs.Place.{tableOf, InRow}
 use Rattle.cells.specs.Given.{leavingIn, aboardIn, runningIn, Given}
-use Rattle.cells.specs.Summed.{Wholes}
+use Rattle.cells.specs.Summed.{Boarders}
 
 -- the run from k: the excess at each station, and what keep costs there but for the cell after it
-pub record Stays (m k : ℕ) (slack source sums excess keep : List ℕ) : Type 0 where
+pub record Keeps (m k : ℕ) (slack source sums excess keep : List ℕ) : Type 0 where
   pub long-excess : length excess ≡ 64
   pub long-keep : length keep ≡ 64
-  pub late : (l : ℕ) → k ≤ l → l ≤ m → nth excess l ≡ excessOn (runningIn slack source) k l
+  pub excesses : (l : ℕ) → k ≤ l → l ≤ m → nth excess l ≡ excessOn (runningIn slack source) k l
   pub kept : (l : ℕ) → k ≤ l → l ≤ m → nth keep l ≡ leavingIn sums k l * arrivalOn (runningIn slack source) k l
 
 -- and what go costs there but for the cell on the diagonal
@@ -62,12 +62,12 @@ pub record RowFilled (k : ℕ) (excess keep go diagonal before after : List ℕ)
   pub most : getD after 0 0 ≤ ceiling
 
 -- what row k is worked from, over the cells on the diagonal of the later rows
-pub record RowGiven (m k : ℕ) (cells slack source period sums whole diagonal : List ℕ) : Type 0 where
+pub record RowGiven (m k : ℕ) (cells slack source period sums boarding diagonal : List ℕ) : Type 0 where
   pub given : Given m slack source period sums
   pub first : 1 ≤ k
   pub last : k ≤ m
   pub long : length cells ≡ 4096
-  pub wholes : Wholes m sums whole
+  pub boarders : Boarders m sums boarding
   pub long-diagonal : length diagonal ≡ 64
   pub most : (l : ℕ) → 1 ≤ l → l ≤ m → nth diagonal l ≤ ceiling
 

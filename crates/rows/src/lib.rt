@@ -6,13 +6,13 @@ ghost use lib.ListN.{length};
 ghost use Rattle.line.specs.Cells.{lesser};
 ghost use Rattle.cells.specs.Place.{RowsWorked};
 ghost use Rattle.cells.specs.Given.{RunningGiven, PeriodGiven, SumsGiven, bookIn};
-ghost use Rattle.cells.specs.Summed.{Wholes};
-ghost use Rattle.rows.specs.Steps.{Stays, Goes, Diagonal, RowRoom, RowFilled};
+ghost use Rattle.cells.specs.Summed.{Boarders};
+ghost use Rattle.rows.specs.Steps.{Keeps, Goes, Diagonal, RowRoom, RowFilled};
 ghost use Rattle.rows.specs.Steps.{RowGiven, RowWorked, RowsGiven};
 use cells::place::cell_at;
 use cells::place::place;
+use cells::sums::boarders;
 use cells::sums::leaving;
-use cells::sums::wholes;
 use cells::times::arrives;
 use cells::times::cost;
 use cells::times::excess_at;
@@ -20,16 +20,16 @@ use cells::times::period_at;
 use rail::Train;
 
 // The excess at each station of a run, and what keep costs there but for the cell after it.
-pub struct Staying {
+pub struct Keeping {
     pub excess: [u64; 64],
     pub keep: [u64; 64],
 }
 
 // These along the run that begins with `first` on time.
-fn stay_along(first: Train, m: u32, slack: &[u32], source: &[u32], sums: &[u32]) -> Staying
+fn keep_along(first: Train, m: u32, slack: &[u32], source: &[u32], sums: &[u32]) -> Keeping
     requires { ⌜ (1 ≤ first .0) × (first .0 ≤ m) × RunningGiven m (now slack) (now source) ×
         SumsGiven m (now sums) ⌝ }
-    ensures { λ r. ⌜ Stays m (first .0) (now (slack .entry)) (now (source .entry))
+    ensures { λ r. ⌜ Keeps m (first .0) (now (slack .entry)) (now (source .entry))
         (now (sums .entry)) (r .excess) (r .keep) ⌝ }
 {
     let mut excess = [0u64; 64];
@@ -45,13 +45,13 @@ fn stay_along(first: Train, m: u32, slack: &[u32], source: &[u32], sums: &[u32])
         keep[k] = cost(leaving(sums, m, first, train), late);
         i += 1;
     }
-    Staying { excess, keep }
+    Keeping { excess, keep }
 }
 
 // By station of a run after its first: what go costs there but for the cell on the diagonal.
-fn go_along(first: Train, m: u32, period: &[u32], sums: &[u32], whole: &[u64]) -> [u64; 64]
+fn go_along(first: Train, m: u32, period: &[u32], sums: &[u32], boarding: &[u64]) -> [u64; 64]
     requires { ⌜ (1 ≤ first .0) × (first .0 ≤ m) × PeriodGiven m (now period) ×
-        SumsGiven m (now sums) × Wholes m (now sums) (now whole) ⌝ }
+        SumsGiven m (now sums) × Boarders m (now sums) (now boarding) ⌝ }
     ensures { λ r. ⌜ Goes m (first .0) (now (period .entry)) (now (sums .entry)) r ⌝ }
 {
     let mut go = [0u64; 64];
@@ -61,7 +61,7 @@ fn go_along(first: Train, m: u32, period: &[u32], sums: &[u32], whole: &[u64]) -
         let train = Train(i);
         let k = train.index();
         sum += leaving(sums, m, first, train);
-        go[k] = cost(sum - whole[k], period_at(period, train.leaves()));
+        go[k] = cost(sum - boarding[k], period_at(period, train.leaves()));
         i -= 1;
     }
     go
@@ -126,20 +126,20 @@ fn work_row(
     source: &[u32],
     period: &[u32],
     sums: &[u32],
-    whole: &[u64],
+    boarding: &[u64],
     diagonal: &[u64],
 ) -> u64
     requires { ⌜ RowGiven m (first .0) (now cells) (now slack) (now source) (now period) (now sums)
-        (now whole) (now diagonal) ⌝ }
+        (now boarding) (now diagonal) ⌝ }
     ensures { λ r. ⌜ RowWorked
         (bookIn m (now (slack .entry)) (now (source .entry)) (now (period .entry))
         (now (sums .entry)))
         (first .0) (now (diagonal .entry)) (now (cells .entry)) (now (cells .exit)) r ⌝ }
 {
-    let stay = stay_along(first, m, slack, source, sums);
-    let excess = stay.excess;
-    let keep = stay.keep;
-    let go = go_along(first, m, period, sums, whole);
+    let kept = keep_along(first, m, slack, source, sums);
+    let excess = kept.excess;
+    let keep = kept.keep;
+    let go = go_along(first, m, period, sums, boarding);
     let a = place(m, first, first.leaves());
     let b = a + (m + 1 - first.0) as usize;
     fill_row(&mut cells[a..b], first, &excess, &keep, &go, diagonal);
@@ -163,7 +163,7 @@ pub fn work_rows(
         (now (sums .entry)))
         (last .0) (now (cells .entry)) (now (cells .exit)) ⌝ }
 {
-    let whole = wholes(sums, m);
+    let boarding = boarders(sums, m);
     let mut diagonal = diagonal_after(cells, m, last);
     let mut i = last.0;
     while 0 < i {
@@ -176,7 +176,7 @@ pub fn work_rows(
             source,
             period,
             sums,
-            &whole,
+            &boarding,
             &diagonal,
         );
         diagonal[train.index()] = cell;

@@ -5,7 +5,8 @@ ghost use Prim.Native.Nat.{ℕ, _+_, _-_, _≤_};
 ghost use Rattle.lists.specs.Run.{nth};
 ghost use Rattle.line.specs.Cells.{bookOf};
 ghost use Rattle.cells.specs.Given.{bookIn, Given};
-ghost use Rattle.sheet.specs.Numbers.{lists, numbersIn};
+ghost use Rattle.sheet.specs.Numbers.{numbersIn};
+ghost use Rattle.decoder.specs.Decode.{listsOf};
 ghost use Rattle.settle.specs.LineOf.{lineOf};
 ghost use Rattle.settle.specs.Buffers.{buffers};
 ghost use Rattle.settle.specs.Settled.{Settled, Workable, Sound, SlackGiven, Slacks};
@@ -90,11 +91,9 @@ pub fn settle_numbers(
     delays: &mut [u32],
 ) -> u64
     requires { ⌜ Workable m (last .0) (buffers (now cells) (now decisions) (now delays))
-        × Sound m period
-        (lists (columns .departures) (columns .driving) (columns .delays) (columns .passengers)) ⌝ }
+        × Sound m period (listsOf columns) ⌝ }
     ensures { λ r. ⌜ Settled
-        (bookOf (lineOf (numbersIn m period
-        (lists (columns .departures) (columns .driving) (columns .delays) (columns .passengers)))))
+        (bookOf (lineOf (numbersIn m period (listsOf columns))))
         (last .0)
         (buffers (now (cells .entry)) (now (decisions .entry)) (now (delays .entry)))
         (buffers (now (cells .exit)) (now (decisions .exit)) (now (delays .exit)))

@@ -1,2 +1,1 @@
-pub mod Preferred
 pub mod Walks

@@ -8,7 +8,7 @@ use native.Mathlib.Omega.{arith}
 use lib.ListN.{length, length-set, getD-replicate}
 use Rattle.lists.specs.Run.{nth}
 use Rattle.cells.specs.Place.{tableOf}
-use Rattle.cells.proofs.Held.{Held, held-set, nth-set-other}
+use Rattle.lists.proofs.Held.{Held, held-set, nth-set-other}
 use Rattle.rows.proofs.diagonal_after.Statement.{statement}
 use Rattle.rows.proofs.diagonal_after.Tie as tie
 

@@ -8,16 +8,16 @@ use lib.ListN.{getD, replicate, getD-replicate}
 use Rattle.lists.specs.Run.{nth}
 use Rattle.line.specs.Ranges.{everyone}
 use Rattle.cells.specs.Given.{boardedIn}
-use Rattle.cells.proofs.Held.{nth-index}
-use Rattle.rows.proofs.Runs.{GoneTo, gone-start, gone-next, gone-end, more-le, whole-le}
+use Rattle.lists.proofs.Held.{nth-index}
+use Rattle.rows.proofs.Runs.{GoneTo, gone-start, gone-next, gone-end, more-le, boarding-le}
 use Rattle.rows.proofs.go_along.Statement.{statement}
 use Rattle.rows.proofs.go_along.Tie as tie
 
 abbrev Inv-loop : tie.InvT-loop
-Inv-loop first m period sums whole go₀ sum₀ i₀ go sum i = GoneTo m (first .0) period sums go sum i
+Inv-loop first m period sums boarding go₀ sum₀ i₀ go sum i = GoneTo m (first .0) period sums go sum i
 
 abbrev μ-loop : tie.MeasureT-loop
-μ-loop first m period sums whole go₀ sum₀ i₀ go sum i = i
+μ-loop first m period sums boarding go₀ sum₀ i₀ go sum i = i
 
 loop-holds : tie.Need-loop-holds Inv-loop μ-loop
 loop-holds c =
@@ -34,28 +34,28 @@ leaving-requires : tie.Need-leaving-requires Inv-loop μ-loop
 leaving-requires c κs = search needs
 
 -- those who board at station i or later, of the train at which the turn stands
-whole-here : (c : tie.After-leaving Inv-loop μ-loop) →
+boarding-here : (c : tie.After-leaving Inv-loop μ-loop) →
     let start = c .before .before .before .before .before .before .before .before .args in
     let i = c .before .before .before .before .loop .i in
-    getD (start .whole .now) (c .before .index .result) 0 ≡ boardedIn (start .m) (start .sums .now) i i
-whole-here c =
+    getD (start .boarding .now) (c .before .index .result) 0 ≡ boardedIn (start .m) (start .sums .now) i i
+boarding-here c =
     let start = c .before .before .before .before .before .before .before .before in
     let at-loop = c .before .before .before .before .loop in
-    nth-index (start .args .whole .now) _ (at-loop .i) (c .before .index .ensures)
+    nth-index (start .args .boarding .now) _ (at-loop .i) (c .before .index .ensures)
     ∙ start .pre .4 .held (at-loop .i) (omega (arith, start .pre .0, at-loop .inv .from)) (at-loop .inv .most)
 
 -- they are among those who are counted, who are no more than everyone
 turn : (c : tie.After-leaving Inv-loop μ-loop) →
     let start = c .before .before .before .before .before .before .before .before .args in
     let more = c .before .before .before .before .loop .sum + c .leaving .result in
-    (more ≤ everyone) × (getD (start .whole .now) (c .before .index .result) 0 ≤ more)
+    (more ≤ everyone) × (getD (start .boarding .now) (c .before .index .result) 0 ≤ more)
 turn c =
     let start = c .before .before .before .before .before .before .before .before in
     let at-loop = c .before .before .before .before .loop in
     let taken = c .before .before .if1 .taken in
     let e = ap (λ (n : ℕ). at-loop .sum + n) (c .leaving .ensures .0) in (
-      more-le _ _ _ _ (start .pre .3) (start .pre .0) _ _ _ (at-loop .inv) taken _ _ e (whole-here c),
-      whole-le _ _ _ _ (start .pre .3) (start .pre .0) _ _ _ (at-loop .inv) taken _ _ e (whole-here c),
+      more-le _ _ _ _ (start .pre .3) (start .pre .0) _ _ _ (at-loop .inv) taken _ _ e (boarding-here c),
+      boarding-le _ _ _ _ (start .pre .3) (start .pre .0) _ _ _ (at-loop .inv) taken _ _ e (boarding-here c),
     )
 
 add-sum : tie.Need-add-sum Inv-loop μ-loop
@@ -110,7 +110,7 @@ loop-again c =
     let at-loop = called .before .before .before .before .loop in
     gone-next _ _ _ _ (start .pre .3) (start .pre .0) (at-loop .go) (at-loop .sum) (at-loop .i) (at-loop .inv)
     (called .before .before .if1 .taken) _ _
-    (ap (λ (n : ℕ). at-loop .sum + n) (called .leaving .ensures .0)) (whole-here called) _ _ _
+    (ap (λ (n : ℕ). at-loop .sum + n) (called .leaving .ensures .0)) (boarding-here called) _ _ _
     (called .before .index .ensures) (minutes (c .before)) (c .cost .ensures .0)
 
 returns : tie.Need-returns Inv-loop μ-loop

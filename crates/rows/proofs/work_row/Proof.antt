@@ -12,8 +12,8 @@ use Rattle.rows.proofs.Working.{row-put-back, row-room}
 use Rattle.rows.proofs.work_row.Statement.{statement}
 use Rattle.rows.proofs.work_row.Tie as tie
 
-stay-along-requires : tie.Need-stay-along-requires
-stay-along-requires c κs = search needs
+keep-along-requires : tie.Need-keep-along-requires
+keep-along-requires c κs = search needs
 
 go-along-requires : tie.Need-go-along-requires
 go-along-requires c κs = search needs
@@ -90,7 +90,7 @@ fill-row-requires c κs =
     let start = start-of placed in
     let go = placed .before .before in
     rw (part-size placed) (row-room _ _ _ _ _ _ _ _ _ _ (start .pre .given) (start .pre .first) (start .pre .last)
-    (go .before .before .before .stay-along .ensures) (go .go-along .ensures) (start .pre .long-diagonal)
+    (go .before .before .before .keep-along .ensures) (go .go-along .ensures) (start .pre .long-diagonal)
     (start .pre .most))
 
 mul-result : tie.Need-mul-result
@@ -120,14 +120,14 @@ returns c =
     let n = start .args .m + 1 - start .args .first .0 in
     let size : a + n - a ≡ n = omega arith in
     row-put-back _ _ _ _ _ _ _ _ _ _ _ _ _ (start .pre .long) (start .pre .given .run .trains) (start .pre .first)
-    (start .pre .last) (filled .fill-row .kept .0 ∙ part-size placed) (go .before .before .before .stay-along .ensures)
+    (start .pre .last) (filled .fill-row .kept .0 ∙ part-size placed) (go .before .before .before .keep-along .ensures)
     (go .go-along .ensures) (filled .fill-row .ensures) a (a + n - a) (spot placed .0) size
 
 pub work-row-spec : {M : Type 1} → statement M
 work-row-spec =
     tie.close
     (tie.spec
-    stay-along-requires
+    keep-along-requires
     go-along-requires
     leaves-requires
     place-requires

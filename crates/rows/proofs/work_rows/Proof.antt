@@ -9,14 +9,14 @@ use Rattle.rows.proofs.work_rows.Statement.{statement}
 use Rattle.rows.proofs.work_rows.Tie as tie
 
 abbrev Inv-loop : tie.InvT-loop
-Inv-loop cells₀ m slack source period sums whole diagonal₀ i₀ cells diagonal i =
+Inv-loop cells₀ m slack source period sums boarding diagonal₀ i₀ cells diagonal i =
     WorkedTo (bookIn m slack source period sums) i₀ cells₀ cells diagonal i
 
 abbrev μ-loop : tie.MeasureT-loop
-μ-loop cells₀ m slack source period sums whole diagonal₀ i₀ cells diagonal i = i
+μ-loop cells₀ m slack source period sums boarding diagonal₀ i₀ cells diagonal i = i
 
-wholes-requires : tie.Need-wholes-requires Inv-loop μ-loop
-wholes-requires c κs = search needs
+boarders-requires : tie.Need-boarders-requires Inv-loop μ-loop
+boarders-requires c κs = search needs
 
 diagonal-after-requires : tie.Need-diagonal-after-requires Inv-loop μ-loop
 diagonal-after-requires c κs = search needs
@@ -42,7 +42,7 @@ work-row-requires c κs =
       first = c .before .before .before .loop-test .taken;
       last = omega (arith, W .most, start .pre .last);
       long = W .long ∙ start .pre .long;
-      wholes = at-loop .before .before .before .wholes .ensures;
+      boarders = at-loop .before .before .before .boarders .ensures;
       long-diagonal = W .long-diagonal;
       most = W .small;
     }
@@ -82,7 +82,7 @@ work-rows-spec =
     (tie.spec
     Inv-loop
     μ-loop
-    wholes-requires
+    boarders-requires
     diagonal-after-requires
     loop-holds
     slice-aggregate-work-row

@@ -6,7 +6,7 @@ use Prim.Native.Nat.{_-_}
 use native.Mathlib.Omega.{arith}
 use lib.ListN.{getD}
 use Rattle.lists.specs.Run.{nth}
-use Rattle.cells.proofs.Held.{nth-index}
+use Rattle.lists.proofs.Held.{nth-index}
 use Rattle.settle.proofs.slack.Statement.{statement}
 use Rattle.settle.proofs.slack.Tie as tie
 

@@ -6,7 +6,7 @@ use Prim.Native.Nat.{_+_, _-_, _≤_}
 use native.Mathlib.Omega.{arith}
 use lib.ListN.{length, length-set}
 use Rattle.lists.specs.Run.{nth}
-use Rattle.cells.proofs.Held.{Held, held-set}
+use Rattle.lists.proofs.Held.{Held, held-set}
 use Rattle.settle.proofs.slacks.Statement.{statement}
 use Rattle.settle.proofs.slacks.Tie as tie
 
@@ -47,7 +47,7 @@ loop-again c =
       omega (arith, I .0),
       simp length-set (I .1),
       held-set (at-loop .list) (c .index .result) (at-loop .i) _ (c .index .ensures) (omega (arith, I .0)) _ 2
-      (at-loop .i + 1)
+          (at-loop .i + 1)
           (omega arith) (omega (arith, I .1, c .index .ensures)) (c .before .slack .ensures)
           (λ l a b n. I .2 l a (omega arith)),
     )

@@ -1,10 +1,10 @@
--- `prefer` meets its contract.
+-- `prefer` meets its contract: its three answers are the cases of the definition.
 -- Assumes nothing.
 use borrow.Author.Needs.{needs}
 use mathlib.Core.Path.{sym, ap}
 use native.Mathlib.Omega.{arith}
 use Rattle.cells.specs.Shown.{byteOf}
-use Rattle.walk.proofs.Preferred.{prefer-go, prefer-keep}
+use Rattle.line.proofs.Choices.{prefer-of-go-less, prefer-of-keep-le}
 use Rattle.walk.proofs.prefer.Statement.{statement}
 use Rattle.walk.proofs.prefer.Tie as tie
 
@@ -14,12 +14,12 @@ returns c = search needs
 returns-2 : tie.Need-returns-2
 returns-2 c =
     let start = c .before .before .args in
-    ap byteOf (sym (prefer-go (start .keep) (start .go) (start .excess) (omega arith) (omega arith)))
+    ap byteOf (sym (prefer-of-go-less (start .keep) (start .go) (start .excess) (omega arith) (omega arith)))
 
 returns-3 : tie.Need-returns-3
 returns-3 c =
     let start = c .before .before .args in
-    ap byteOf (sym (prefer-keep (start .keep) (start .go) (start .excess) (omega arith)))
+    ap byteOf (sym (prefer-of-keep-le (start .keep) (start .go) (start .excess) (omega arith)))
 
 pub prefer-spec : {M : Type 1} → statement M
 prefer-spec = tie.close (tie.spec returns returns-2 returns-3)

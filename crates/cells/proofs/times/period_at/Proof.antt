@@ -2,7 +2,7 @@
 -- Assumes nothing.
 use borrow.Author.Needs.{needs}
 use mathlib.Core.Path.{_∙_}
-use Rattle.cells.proofs.Held.{nth-index}
+use Rattle.lists.proofs.Held.{nth-index}
 use Rattle.cells.proofs.times.period_at.Statement.{statement}
 use Rattle.cells.proofs.times.period_at.Tie as tie
 

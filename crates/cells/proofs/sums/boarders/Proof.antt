@@ -1,4 +1,4 @@
--- `sums::wholes` meets its contract. Invariant: the entries before i are held. Measure: the trains left.
+-- `sums::boarders` meets its contract. Invariant: the entries before i are held. Measure: the trains left.
 -- Assumes nothing.
 use borrow.Author.Needs.{needs}
 use mathlib.Core.Path.{_≡_, refl}
@@ -6,16 +6,16 @@ use Prim.Native.Nat.{_+_, _-_, _≤_, _<_}
 use native.Mathlib.Omega.{arith}
 use lib.ListN.{length, length-set}
 use Rattle.cells.specs.Given.{boardedIn}
-use Rattle.cells.proofs.Held.{Held, held-set}
-use Rattle.cells.proofs.sums.wholes.Statement.{statement}
-use Rattle.cells.proofs.sums.wholes.Tie as tie
+use Rattle.lists.proofs.Held.{Held, held-set}
+use Rattle.cells.proofs.sums.boarders.Statement.{statement}
+use Rattle.cells.proofs.sums.boarders.Tie as tie
 
 abbrev Inv-loop : tie.InvT-loop
-Inv-loop sums m whole₀ i₀ whole i =
-    (1 ≤ i) × (i ≤ m + 1) × (length whole ≡ 64) × Held whole (λ l. boardedIn m sums l l) 1 i
+Inv-loop sums m list₀ i₀ list i =
+    (1 ≤ i) × (i ≤ m + 1) × (length list ≡ 64) × Held list (λ l. boardedIn m sums l l) 1 i
 
 abbrev μ-loop : tie.MeasureT-loop
-μ-loop sums m whole₀ i₀ whole i = m + 1 - i
+μ-loop sums m list₀ i₀ list i = m + 1 - i
 
 loop-holds : tie.Need-loop-holds Inv-loop μ-loop
 loop-holds c = (omega arith, omega arith, refl, λ l a b. absurd (omega arith))
@@ -31,11 +31,11 @@ within c =
     let most = c .before .before .before .before .before .pre .trains in
     (omega (arith, c .index .ensures), omega arith)
 
-mul-whole : tie.Need-mul-whole Inv-loop μ-loop
-mul-whole c = omega (arith, within c)
+mul-list : tie.Need-mul-list Inv-loop μ-loop
+mul-list c = omega (arith, within c)
 
-array-write-whole : tie.Need-array-write-whole Inv-loop μ-loop
-array-write-whole c = within c .0
+array-write-list : tie.Need-array-write-list Inv-loop μ-loop
+array-write-list c = within c .0
 
 add-i : tie.Need-add-i Inv-loop μ-loop
 add-i c = omega (arith, within c)
@@ -50,7 +50,7 @@ loop-again c =
       omega arith,
       omega arith,
       simp length-set (inv .2),
-      held-set (at-loop .whole) (c .index .result) (at-loop .i) _ (c .index .ensures) (inv .0) _ 1 (at-loop .i + 1)
+      held-set (at-loop .list) (c .index .result) (at-loop .i) _ (c .index .ensures) (inv .0) _ 1 (at-loop .i + 1)
           (omega arith) (omega (arith, within c, inv .2)) (c .before .boarded .ensures)
           (λ l a b n. inv .3 l a (omega arith)),
     )
@@ -60,8 +60,8 @@ returns c =
     let inv = c .before .loop .inv in
     record { long = inv .2; held = λ l a b. inv .3 l a (omega arith) }
 
-pub wholes-spec : {M : Type 1} → statement M
-wholes-spec =
+pub boarders-spec : {M : Type 1} → statement M
+boarders-spec =
     tie.close
     (tie.spec
     Inv-loop
@@ -69,8 +69,8 @@ wholes-spec =
     loop-holds
     boarded-requires
     index-requires
-    mul-whole
-    array-write-whole
+    mul-list
+    array-write-list
     add-i
     loop-less
     loop-again

@@ -1,4 +1,4 @@
--- `stay_along` meets its contract. Invariant: the stations before i are done. Measure: the trains left.
+-- `keep_along` meets its contract. Invariant: the stations before i are done. Measure: the trains left.
 -- Assumes nothing.
 use borrow.Author.Needs.{needs}
 use mathlib.Core.Path.{_≡_, refl, ap, _∙_}
@@ -9,19 +9,19 @@ use Rattle.lists.specs.Run.{nth}
 use Rattle.line.specs.Cells.{arrivalOn}
 use Rattle.line.specs.Ranges.{latest}
 use Rattle.cells.specs.Given.{runningIn}
-use Rattle.rows.proofs.Runs.{StayedTo, stayed-start, stayed-next, stayed-end, arrives-on, arrives-le}
-use Rattle.rows.proofs.stay_along.Statement.{statement}
-use Rattle.rows.proofs.stay_along.Tie as tie
+use Rattle.rows.proofs.Runs.{KeptTo, kept-start, kept-next, kept-end, arrives-on, arrives-le}
+use Rattle.rows.proofs.keep_along.Statement.{statement}
+use Rattle.rows.proofs.keep_along.Tie as tie
 
 abbrev Inv-loop : tie.InvT-loop
 Inv-loop first m slack source sums excess₀ keep₀ late₀ i₀ excess keep late i =
-    StayedTo m (first .0) slack source sums excess keep late i
+    KeptTo m (first .0) slack source sums excess keep late i
 
 abbrev μ-loop : tie.MeasureT-loop
 μ-loop first m slack source sums excess₀ keep₀ late₀ i₀ excess keep late i = m + 1 - i
 
 loop-holds : tie.Need-loop-holds Inv-loop μ-loop
-loop-holds c = stayed-start _ _ _ _ _ (replicate 64 0) refl (c .before .before .before .pre .1)
+loop-holds c = kept-start _ _ _ _ _ (replicate 64 0) refl (c .before .before .before .pre .1)
 
 leaves-requires : tie.Need-leaves-requires Inv-loop μ-loop
 leaves-requires c κs = search needs
@@ -97,16 +97,16 @@ loop-again c =
     let turn = c .before .before .before in
     let start = turn .before .before .before .before .before .before .before .before in
     let at-loop = turn .before .before .before .before .loop in
-    stayed-next _ _ _ _ _ (start .pre .2) (start .pre .0) _ _ _ _ (at-loop .inv)
+    kept-next _ _ _ _ _ (start .pre .2) (start .pre .0) _ _ _ _ (at-loop .inv)
     (turn .before .before .before .loop-test .taken) _ _ (excess-here (turn .before)) (turn .arrives .ensures) _ _
     (c .before .before .index .ensures)
     (c .cost .ensures .0 ∙ ap (λ (n : ℕ). n * turn .arrives .result) (c .before .leaving .ensures .0))
 
 returns : tie.Need-returns Inv-loop μ-loop
-returns c = stayed-end _ _ _ _ _ _ _ _ _ (c .before .loop .inv) (omega arith)
+returns c = kept-end _ _ _ _ _ _ _ _ _ (c .before .loop .inv) (omega arith)
 
-pub stay-along-spec : {M : Type 1} → statement M
-stay-along-spec =
+pub keep-along-spec : {M : Type 1} → statement M
+keep-along-spec =
     tie.close
     (tie.spec
     Inv-loop
