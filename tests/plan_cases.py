@@ -1,9 +1,10 @@
 #!/usr/bin/env python3
-# The records of the program plan_cases, crates/plan_cases/stdin, and what it must print for them, crates/plan_cases/stdout:
-# document 01's "Sums to check by hand" and "By program" for plan. The numbers below are those that document 01 prints, or
-# follow from one of its sentences, which is then cited. FOUND marks what it doesn't print: there the numbers are taken from the
-# independent reading in tests/plans.py, whose header gives the form of a record and of a line. Whatever is written out here is
-# also compared with that reading.
+# The records of the program plan_cases, crates/plan_cases/stdin, and what it must print for them,
+# crates/plan_cases/stdout: document 01's "Sums to check by hand" and "By program" for plan. The numbers
+# below are those that document 01 prints, or follow from one of its sentences, which is then cited.
+# FOUND marks what it doesn't print: there the numbers are taken from the independent reading in
+# tests/plans.py, whose header gives the form of a record and of a line. Whatever is written out here
+# is also compared with that reading.
 #
 #   python3 tests/plan_cases.py            writes the two files
 #   python3 tests/plan_cases.py --check    compares; ends with 1 if one differs
@@ -11,7 +12,7 @@
 import sys
 
 from cases import A, B, MOST, named, sheet
-from plans import answer, compare_or_write, list_lines, listed, record, sum_line
+from plans import GO, KEEP, LENGTHS, answer, compare_or_write, list_lines, listed, record, sum_line
 
 FOUND = 'not printed in document 01'
 C = dict(m=2, T=10, departures=[0, 10], driving=[10, 10], delays=[5, 0], passengers=[0, 1, 1])
@@ -36,17 +37,18 @@ def planned(name, data, total, decisions, delays, rows):
              FOUND if decisions is FOUND else listed('decisions', [0] + decisions + [0] * (64 - m)),
              FOUND if delays is FOUND else listed('delays', delays + [0] * (64 - m))]
     right += [FOUND] * m if rows is FOUND else [listed('row %d:' % k, row) for k, row in enumerate(rows, 1)]
-    return case(name, data, (4096, 64, 64), right + ['changed %d' % (m * (m + 1) // 2)], found)
+    return case(name, data, LENGTHS, right + ['changed %d' % (m * (m + 1) // 2)], found)
 
 
 def refused(name, data, number, place=0):
-    """"Any other refused plan sets all 64 decision bytes to 2 and all delays to 0, and leaves sheet and cells unchanged.\""""
+    """"Any other refused plan or report sets all 64 decision bytes to 2 and all delays to 0, and leaves
+    sheet and cells unchanged.\""""
     right = ['plan %d %d 0' % (number, place), listed('decisions', [2] * 64), listed('delays', [0] * 64), 'changed 0']
-    return case(name, data, (4096, 64, 64), right, answer(data)[0])
+    return case(name, data, LENGTHS, right, answer(data)[0])
 
 
 def unlike(name, data, *lengths):
-    """Buffers of other lengths: 10 at place 0, and "refusal 10 writes nothing"."""
+    """Buffers of other lengths: 10 at place 0, and "refusal 10 writes nothing but that list of three"."""
     right = ['plan 10 0 0', listed('decisions', [7] * lengths[1]), listed('delays', [77777] * lengths[2]), 'changed 0']
     return case(name, data, lengths, right, answer(data, lengths)[0])
 
@@ -56,9 +58,6 @@ def sums(name, data):
     found, _ = answer(data)
     assert found[:2] == (0, 0)
     return named(name + ':') + record(b'P', data), '%s: %s\n' % (name, sum_line(found))
-
-
-KEEP, GO = 1, 0
 
 
 def by_hand():
@@ -76,6 +75,7 @@ def by_hand():
 
 def boundaries():
     return [
+        # one train: its delay is its source delay, and the total is its passengers times that
         planned('A, T 1', sheet(A, T=1), 21, [], [7], [[21]]),
         planned('A, T 1440', sheet(A, T=1440), 21, [], [7], [[21]]),
         planned('A, delay 0', sheet(A, delays=[0]), 0, [], [0], [[0]]),

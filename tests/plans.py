@@ -7,10 +7,12 @@
 #   python3 tests/plans.py --check    makes them anew in memory and compares; ends with 1 if a file
 #                                     differs or is missing
 #   python3 tests/plans.py --wrong    works the stream by each of several wrong rules, and shows how
-#                                     many records would then print another line; ends with 1 if none
+#                                     many records would then print another line; ends with 1 if
+#                                     some rule changes none
 #
 # The plan of up to 10 trains is found by trying all policies, and the working cells of up to 6 by
-# their meaning. There, and for longer lines, both must agree with the paper's rule for the cells.
+# their meaning; both must agree with the paper's rule for the cells. Longer lines have the rule
+# alone: there the total of the decisions shown, followed directly, must be cell (1, 1).
 #
 # Sheets and their damage come from tests/sheets.py. Its numbers come from a generator with a fixed
 # seed, so every version of Python 3 makes the same bytes.
@@ -111,12 +113,7 @@ def plan_by_trying(line):
     found = [(Day(line, policy), policy) for policy in policies(line.m)]
     least = min(day.total() for day, _ in found)
     best = [(day, policy) for day, policy in found if day.total() == least]
-    plan = best[0][1]
-    for _, policy in best:
-        for train in range(2, line.m + 1):
-            if policy[train] != plan[train]:
-                plan = policy if policy[train] == KEEP else plan
-                break
+    plan = max((policy for _, policy in best), key=lambda policy: list(policy.values()))
     tie = any(day.missed != best[0][0].missed for day, _ in best)
     return plan, least, tie
 
@@ -142,6 +139,8 @@ def cells_by_meaning(line):
 # ---------------------------------------------------------------------------
 
 class Rule:
+    """The paper's rule; each method is one of its sentences."""
+
     def excess(self, line, station, arrival):
         return max(0, arrival - line.slack[station])
 
@@ -415,7 +414,7 @@ def wrong_lengths():
                 lengths = list(LENGTHS)
                 lengths[which] = length
                 P('lengths', sheet, tuple(lengths))
-    for lengths in ((0, 0, 0), (64, 64, 4096 % 70), (4095, 65, 64), (4096, 63, 65), (2080, 64, 64)):
+    for lengths in ((0, 0, 0), (64, 64, 36), (4095, 65, 64), (4096, 63, 65), (2080, 64, 64)):
         P('lengths', right, lengths)
     for damaged in (right[:-1], right + b'\0', small_line(2).with_head(T=0).sheet(), small_line(2).with_head(m=65).sheet()):
         P('lengths', damaged, (4096, 64, 63))
@@ -448,15 +447,14 @@ def make_records():
 
 
 def survey(answers):
-    """How often each answer, each m and each kind occurs."""
+    """How often each answer and each m occurs, and what was seen on the way."""
     numbers, trains, seen = Counter(), Counter(), Counter()
     for (kind, sheet, lengths), (found, tie) in zip(records, answers):
-        number, place = found[:2]
+        number = found[0]
         name = '%d' % number
         if number == 1:
             name = '1 under 3' if len(sheet) < 3 else '1 shorter'
         numbers[name] += 1
-        seen[kind] += 1
         if number == 10 and read(sheet)[0] != 0:
             seen['10 before another'] += 1
         if number == 0:
@@ -612,6 +610,8 @@ class ByLeavingStation(Rule):
 
 
 class Stored(Rule):
+    """Stores something else than the rule does."""
+
     def stored(self, line, before):
         total, decisions, delays, cells = Rule.stored(self, line, before)
         return self.other(line, before, total, list(decisions), list(delays), list(cells))

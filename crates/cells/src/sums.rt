@@ -29,9 +29,10 @@ fn sum_column(sums: &mut [u32], passengers: &[u32], m: u32, train: Train)
     ensures { λ _. ⌜ ColumnSummed m (now (passengers .entry)) (train .0) (now (sums .entry))
         (now (sums .exit)) ⌝ }
 {
+    let last = train.leaves();
     let to = train.reaches();
     let mut sum: u32 = 0;
-    let mut k = train.0;
+    let mut k = last.0;
     while 0 < k {
         sum += pair(passengers, m, Station(k), to);
         let at = square(k, train.0);
@@ -40,7 +41,7 @@ fn sum_column(sums: &mut [u32], passengers: &[u32], m: u32, train: Train)
     }
 }
 
-// The sums of a line.
+// The sums of a line; the rest 0.
 pub fn sums_of(passengers: &[u32], m: u32) -> [u32; 4096]
     requires { ⌜ Fields m (now passengers) ⌝ }
     ensures { λ r. ⌜ Summed m (now (passengers .entry)) r ⌝ }
@@ -79,7 +80,7 @@ pub fn boarded(sums: &[u32], m: u32, first: Train, train: Train) -> u64
     sum
 }
 
-// By train, those who board it or a later one.
+// By train, those who board it or a later one; the rest 0.
 pub fn boarders(sums: &[u32], m: u32) -> [u64; 64]
     requires { ⌜ SumsGiven m (now sums) ⌝ }
     ensures { λ r. ⌜ Boarders m (now (sums .entry)) r ⌝ }

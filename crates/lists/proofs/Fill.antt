@@ -12,7 +12,7 @@ use lib.Seq.{ext-getD, getD-set-same, getD-set-other}
 use Rattle.lists.specs.Run.{padded}
 use Rattle.lists.specs.Filled.{Filled}
 use Rattle.lists.proofs.Order.{lt-or-ge}
-use Rattle.lists.proofs.Run.{padded-ext}
+use Rattle.lists.proofs.Run.{padded-ext, padded-past}
 
 module _ {A : Type 0} (d : A) (f : ℕ → A) where
   pub filled-none : (xs : List A) → Filled d f 0 xs xs
@@ -48,15 +48,24 @@ filled-value d v {old = old} h l =
     filled-all d _ (replicate (length old) v) h l (length-replicate (length old) v)
     (λ k b. getD-replicate (length old) k v d (omega (arith, length-replicate (length old) v)))
 
+pub zeros-at : (n k : ℕ) → getD {A = ℕ} (replicate n 0) k 0 ≡ 0
+zeros-at n k =
+    ⊎-elim
+    (λ (l : k < n). getD-replicate n k 0 0 l)
+    (λ (l : n ≤ k). List·getD-eq-default (replicate n 0) 0 (omega (arith, length-replicate {A = ℕ} n 0)))
+    (lt-or-ge k n)
+
 -- filled over zeros
 pub filled-padded : (f : ℕ → ℕ) (size n : ℕ) {new : List ℕ} → Filled 0 f n (replicate size 0) new
     → new ≡ padded size n (λ (i : ℕ). f (i - 1))
 filled-padded f size n {new} h =
     padded-ext size n (λ (i : ℕ). f (i - 1)) new (h .long ∙ length-replicate size 0)
     (λ k a b. let e : k ≡ k + 1 - 1 = omega arith in h .filled k a ∙ ap f e)
-    (λ k a.
-    h .others k a
-    ∙ ⊎-elim
-    (λ (b : k < size). getD-replicate size k 0 0 b)
-    (λ (b : size ≤ k). List·getD-eq-default (replicate size 0) 0 (omega (arith, length-replicate {A = ℕ} size 0)))
-    (lt-or-ge k size))
+    (λ k a. h .others k a ∙ zeros-at size k)
+
+-- the same, counted from 1
+pub filled-counted : (f : ℕ → ℕ) (size n : ℕ) (new : List ℕ) → Filled 0 (λ k. f (k + 1)) n (replicate size 0) new
+    → new ≡ padded size n f
+filled-counted f size n new h =
+    padded-ext size n f new (h .long ∙ length-replicate size 0) (λ k a b. h .filled k a)
+    (λ k a. ap (λ (xs : List ℕ). getD xs k 0) (filled-padded _ size n h) ∙ padded-past size n _ k a)

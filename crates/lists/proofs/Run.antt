@@ -97,3 +97,22 @@ padded-same size n f g same =
     (λ (u : n < i). below-yes _ _ u ∙ sym (below-yes _ _ u))
     (λ (u : i ≤ n). below-no _ _ u ∙ same i a u ∙ sym (below-no _ _ u))
     (lt-or-ge n i))
+
+-- ---- functions whose values are listed
+
+-- where the lists are equal, so are the functions
+pub listed-each : {A : Type 0} (d : A) (f g : ℕ → A) (a n : ℕ) → listed f a n ≡ listed g a n
+    → (i : ℕ) → a ≤ i → i < a + n → f i ≡ g i
+listed-each d f g a n e i u v =
+    let here : a + (i - a) ≡ i = omega arith in
+    subst (λ (x : ℕ). f x ≡ g x) here
+    (sym (listed-at f d a n (i - a) (omega arith)) ∙ ap (λ xs. getD xs (i - a) d) e
+    ∙ listed-at g d a n (i - a) (omega arith))
+
+-- a list of f 1 to f n, and then 0
+pub listed-padded : (size n : ℕ) (f : ℕ → ℕ) (xs : List ℕ) → listed f 1 n ≡ xs → padded size n f ≡ padded size n (nth xs)
+listed-padded size n f xs e =
+    padded-same size n f (nth xs)
+    (λ i u v.
+    let here : 1 + (i - 1) ≡ i = omega arith in
+    ap f (sym here) ∙ sym (listed-at f 0 1 n (i - 1) (omega arith)) ∙ ap (λ (l : List ℕ). nth l i) e)

@@ -2,6 +2,7 @@
 // place, from 1, times 1,000,003.
 ghost use Prim.Native.Nat.{_≤_};
 
+// Cut, so that the product fits; no list is that long.
 fn mark(index: usize) -> u64 {
     ((index % 65536) as u64 + 1) * 1000003
 }

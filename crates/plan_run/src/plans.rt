@@ -24,6 +24,7 @@ fn left(cells: &[u64], decisions: &[u8], delays: &[u32]) {
     say::end();
 }
 
+// The seven bits of a byte that come first.
 fn half(b: u8) -> usize
     ensures { λ r. ⌜ r ≤ 127 ⌝ }
 {
@@ -73,7 +74,8 @@ fn plan_into(
     }
 }
 
-// Buffers of these lengths, in which every place holds what no plan puts there.
+// Buffers of these lengths, in which every place holds a pattern, so that what is not written is
+// seen.
 fn plan_buffers(sheet: &[u8], a: usize, b: usize, c: usize, full: bool) {
     let mut cells = [0u64; 4100];
     marks::put(&mut cells);

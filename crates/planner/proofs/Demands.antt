@@ -43,7 +43,9 @@ use Rattle.planner.specs.Plan.{Planned, Plan}
 use Rattle.planner.specs.Demands.{SameLengths, Blanked, Carries, Answered, Demand1, policyIn}
 use Rattle.planner.specs.Demands.{LeastPlan, Demand2}
 use Rattle.settle.proofs.Lines.{line-in-range}
+use Rattle.settle.proofs.Settles.{buffers-one}
 use Rattle.planner.proofs.Refusals.{right-of-fine, plan-of-sheet, plan-of-buffers, accepted-of-plan}
+use Rattle.planner.proofs.Outcome.{plan-outcome-one}
 use Rattle.planner.proofs.Possible.{plan-possible}
 
 -- ---- demand 1
@@ -79,7 +81,7 @@ module _ (s : List ℕ) (before after : Buffers) (a : Answer) (h : Plan s before
   nothing-written : planVerdict s before ≡ Refused BufferLength → after ≡ before
   nothing-written e =
       let left = h .refused BufferLength e in
-      λ i. record { cells = left .cells i; decisions = left .decisions i; delays = left .delays i }
+      buffers-one after before (left .cells) (left .decisions) (left .delays)
 
   right-after : RightLengths before → RightLengths after
   right-after right = elim (fine-or-refused (planVerdict s before)) [
@@ -151,7 +153,7 @@ module _ (s : List ℕ) (before after : Buffers) (a : Answer) (h : Plan s before
       }
 
 pub demand-1 : Demand1
-demand-1 = record { every-sheet = plan-possible; every-plan = answered }
+demand-1 = record { every-sheet = plan-possible; only-one = plan-outcome-one; every-plan = answered }
 
 -- ---- demand 2
 

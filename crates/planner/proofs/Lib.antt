@@ -5,3 +5,4 @@ pub mod Possible
 pub mod Demands
 pub mod Sheets
 pub mod Useless
+pub mod Promises

@@ -9,13 +9,12 @@ use Rattle.lists.proofs.Run.{padded-same}
 use Rattle.rail.specs.declared.Refusal.{Refusal}
 use Rattle.rail.specs.declared.Verdict.the-variants.{Fine, Refused}
 use Rattle.rail.specs.Verdict.{numberIn, placeIn}
-use Rattle.rail.proofs.Checks.{refused-not-fine, fine-or-refused, then-fine}
-use Rattle.line.specs.Line.{Line}
+use Rattle.rail.proofs.Checks.{refused-not-fine, fine-or-refused}
+use Rattle.line.specs.Line.{Line, lineFrom}
 use Rattle.line.specs.Cells.{bookOf}
 use Rattle.line.proofs.Days.{lines-alike-refl, same-days, same-total}
 use Rattle.line.proofs.Plan.{plan-one}
 use Rattle.sheet.specs.Numbers.{numbersOf}
-use Rattle.sheet.proofs.Facts.{accepted-of-fine}
 use Rattle.cells.proofs.Written.{rows-worked-one}
 use Rattle.cells.proofs.Shown.{shown-same}
 use Rattle.settle.specs.LineOf.{lineOf}
@@ -23,7 +22,8 @@ use Rattle.planner.specs.declared.Answer.{Answer}
 use Rattle.planner.specs.declared.Answer.the-variants.{Accepted}
 use Rattle.settle.specs.Buffers.{Buffers}
 use Rattle.planner.specs.Plan.{answerNumber, answerPlace, planVerdict, Planned, RefusedFor, Plan}
-use Rattle.settle.proofs.Lines.{line-in-range}
+use Rattle.settle.proofs.Settles.{buffers-one}
+use Rattle.planner.proofs.Refusals.{accepted-of-plan}
 
 -- ---- what plan leaves
 
@@ -54,10 +54,6 @@ module _ (s : List ℕ) (before after : Buffers) (a : Answer) where
 -- ---- two outcomes that keep plan's promise are equal
 
 module _ (before after after′ : Buffers) where
-  buffers-one : after .cells ≡ after′ .cells → after .decisions ≡ after′ .decisions → after .delays ≡ after′ .delays
-      → after ≡ after′
-  buffers-one c d y = λ i. record { cells = c i; decisions = d i; delays = y i }
-
   pub planned-one : (L : Line) (a a′ : Answer) → L .trains ≤ 64 → Planned L before after a → Planned L before after′ a′
       → (a ≡ a′) × (after ≡ after′)
   planned-one L a a′ few P Q =
@@ -65,7 +61,7 @@ module _ (before after after′ : Buffers) where
       let lines = lines-alike-refl 1 L in
       let days = same-days L L (P .policy) (Q .policy) lines same in (
         P .answer ∙ ap Accepted (same-total L L (P .policy) (Q .policy) lines same) ∙ sym (Q .answer),
-        buffers-one
+        buffers-one after after′
             (rows-worked-one (bookOf L) (L .trains) _ _ _ few (P .cells) (Q .cells))
             (P .decisions ∙ shown-same (L .trains) (P .policy) (Q .policy) same ∙ sym (Q .decisions))
             (P .delays ∙ padded-same 64 (L .trains) _ _ (days .arrival) ∙ sym (Q .delays)),
@@ -75,18 +71,15 @@ module _ (before after after′ : Buffers) where
       → (a ≡ a′) × (after ≡ after′)
   refused-for-one r a a′ P Q = (
     P .answer ∙ sym (Q .answer),
-    buffers-one (P .cells ∙ sym (Q .cells)) (P .decisions ∙ sym (Q .decisions)) (P .delays ∙ sym (Q .delays)),
+    buffers-one after after′ (P .cells ∙ sym (Q .cells)) (P .decisions ∙ sym (Q .decisions)) (P .delays ∙ sym (Q .delays)),
   )
-
--- an accepted line has at most 64 trains
-fine-few : (s : List ℕ) (before : Buffers) → planVerdict s before ≡ Fine → lineOf (numbersOf s) .trains ≤ 64
-unfolding planVerdict
-fine-few s before e =
-    line-in-range (numbersOf s) (accepted-of-fine s (then-fine _ _ e .1) .numbers) .running .trains
 
 pub plan-outcome-one : (s : List ℕ) (before after after′ : Buffers) (a a′ : Answer) → Plan s before after a
     → Plan s before after′ a′ → (a ≡ a′) × (after ≡ after′)
+unfolding lineOf lineFrom
 plan-outcome-one s before after after′ a a′ P Q = elim (fine-or-refused (planVerdict s before)) [
-  | inl e ↦ planned-one before after after′ _ a a′ (fine-few s before e) (P .accepted e) (Q .accepted e)
+  | inl e ↦
+      let few = accepted-of-plan s before e .1 .numbers .trains-most in
+      planned-one before after after′ _ a a′ few (P .accepted e) (Q .accepted e)
   | inr w ↦ refused-for-one before after after′ (w .0) a a′ (P .refused (w .0) (w .1)) (Q .refused (w .0) (w .1))
 ]

@@ -3,13 +3,13 @@
 -- Assumes nothing.
 use mathlib.Core.Path.{_≡_, refl, sym, ap, subst, _∙_}
 use mathlib.Core.List.{List, [], _∷_}
-use Prim.Native.Nat.{ℕ, _+_, _-_, _≤_, _<_}
+use Prim.Native.Nat.{ℕ, _+_, _-_, _≤_}
 use native.Mathlib.Omega.{arith}
 use lib.ListN.{getD}
 use Rattle.lists.specs.Choice.{ifBelow}
 use Rattle.lists.specs.Run.{runOf, listed, padded, nth}
 use Rattle.lists.proofs.Choice.{below-yes, below-no}
-use Rattle.lists.proofs.Run.{listed-at, padded-same}
+use Rattle.lists.proofs.Run.{listed-each, listed-padded, padded-same}
 use Rattle.rail.specs.declared.Verdict.the-variants.{Fine}
 use Rattle.rail.specs.Verdict.{refuse_when_below_, _andThen_, firstOf}
 use Rattle.bits.specs.Field.{bitAt, fieldOf}
@@ -46,15 +46,7 @@ use Rattle.planner.specs.Sheets.{decisionsB13, rowsB13, AnswersB13}
 use Rattle.planner.proofs.Refusals.{plan-of-sheet}
 use Rattle.cells.proofs.Shown.{shown-same}
 
--- ---- two functions that are equal at a few numbers, since the lists of their values are
-
-same-each : {A : Type 0} (d : A) (f g : ℕ → A) (a n : ℕ) → listed f a n ≡ listed g a n
-    → (i : ℕ) → a ≤ i → i < a + n → f i ≡ g i
-same-each d f g a n e i u v =
-    let here : a + (i - a) ≡ i = omega arith in
-    subst (λ (x : ℕ). f x ≡ g x) here
-    (sym (listed-at f d a n (i - a) (omega arith)) ∙ ap (λ xs. getD xs (i - a) d) e
-    ∙ listed-at g d a n (i - a) (omega arith))
+-- ---- two tables that are equal at a few pairs, since the lists of their values are
 
 -- the values at the pairs k ≤ l ≤ n, row by row
 pairRows : ℕ → Table → Rows
@@ -63,7 +55,7 @@ pairRows n f = listed (λ k. listed (f k) k (n + 1 - k)) 1 n
 same-pairs : (f g : Table) (n : ℕ) → pairRows n f ≡ pairRows n g → (k l : ℕ) → 1 ≤ k → k ≤ l → l ≤ n → f k l ≡ g k l
 unfolding pairRows
 same-pairs f g n e k l u v w =
-    same-each 0 (f k) (g k) k (n + 1 - k) (same-each [] _ _ 1 n e k u (omega arith)) l v (omega arith)
+    listed-each 0 (f k) (g k) k (n + 1 - k) (listed-each [] _ _ 1 n e k u (omega arith)) l v (omega arith)
 
 -- ---- the sheets are accepted
 
@@ -87,9 +79,9 @@ lines-same : (m T : ℕ) (d d′ r r′ y y′ : ℕ → ℕ) (n n′ : ℕ → 
     → LinesAlike 1 (lineFrom m T d r y n) (lineFrom m T d′ r′ y′ n′)
 lines-same m T d d′ r r′ y y′ n n′ departures driving delays passengers =
     base-alike 1 m T d d′ r r′ y y′ n n′ (omega arith)
-    (λ i a b. same-each 0 d d′ 1 m departures i a (omega arith))
-    (λ i a b. same-each 0 r r′ 1 m driving i a (omega arith))
-    (λ i a b. same-each 0 y y′ 1 m delays i a (omega arith))
+    (λ i a b. listed-each 0 d d′ 1 m departures i a (omega arith))
+    (λ i a b. listed-each 0 r r′ 1 m driving i a (omega arith))
+    (λ i a b. listed-each 0 y y′ 1 m delays i a (omega arith))
     (λ i j a b c.
     let e : j - 1 + 1 ≡ j = omega arith in
     subst (λ (x : ℕ). n i x ≡ n′ i x) e (same-pairs _ _ m passengers i (j - 1) a (omega arith) (omega arith)))
@@ -139,14 +131,6 @@ unfolding ifBelow runOf listed sum_from_to_ lineFrom arrival excess departure le
     keepCost goCost cellBy choice begins policyBy decide pairRows printedCells
 printed-b13 = record { rule = refl; corner = refl; decisions = refl; delays = refl }
 
--- a function that makes the places 1 to m of a list, and the list
-listed-padded : (m : ℕ) (f : ℕ → ℕ) (xs : List ℕ) → listed f 1 m ≡ xs → padded 64 m f ≡ padded 64 m (nth xs)
-listed-padded m f xs e =
-    padded-same 64 m f (nth xs)
-    (λ i u v.
-    let here : 1 + (i - 1) ≡ i = omega arith in
-    ap f (sym here) ∙ sym (listed-at f 0 1 m (i - 1) (omega arith)) ∙ ap (λ (l : List ℕ). nth l i) e)
-
 module _ (s : List ℕ) (M : Line) (n : ℕ) (ds ys : List ℕ) (rows : Rows) (fine : sheetVerdict s ≡ Fine)
     (alike : LinesAlike 1 (lineOf (numbersOf s)) M) (print : Printed M n ds ys rows)
     (before after : Buffers) (a : Answer) (right : RightLengths before) (h : Plan s before after a) where
@@ -182,13 +166,13 @@ module _ (s : List ℕ) (M : Line) (n : ℕ) (ds ys : List ℕ) (rows : Rows) (f
   unfolding shown
   decisions-are =
       plan .decisions ∙ shown-same (L .trains) (plan .policy) q agrees ∙ ap (λ (m : ℕ). shown m q) (alike .trains)
-      ∙ listed-padded (M .trains) _ ds (print .decisions)
+      ∙ listed-padded 64 (M .trains) _ ds (print .decisions)
 
   delays-are : after .delays ≡ padded 64 (M .trains) (nth ys)
   delays-are =
       plan .delays ∙ padded-same 64 (L .trains) _ _ (same-days L M (plan .policy) q alike agrees .arrival)
       ∙ ap (λ (m : ℕ). padded 64 m (arrival (M .running) q)) (alike .trains)
-      ∙ listed-padded (M .trains) _ ys (print .delays)
+      ∙ listed-padded 64 (M .trains) _ ys (print .delays)
 
   -- both tables are worked for M
   cells-are : (k l : ℕ) → 1 ≤ k → k ≤ l → l ≤ M .trains

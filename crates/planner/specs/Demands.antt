@@ -79,6 +79,9 @@ pub record Possible (s : List ℕ) (before : Buffers) : Type 0 where
 pub record Demand1 : Type 0 where
   -- Every sheet of bytes gets an answer, with any buffers: the contract can always be kept.
   pub every-sheet : (s : List ℕ) (before : Buffers) → Possible s before
+  -- And no two: whatever keeps the contract leaves the same answer, cells, decisions and delays.
+  pub only-one : (s : List ℕ) (before after after′ : Buffers) (a a′ : Answer) → Plan s before after a
+      → Plan s before after′ a′ → (a ≡ a′) × (after ≡ after′)
   pub every-plan : (s : List ℕ) (before after : Buffers) (a : Answer) → Plan s before after a
       → Answered s before after a
 

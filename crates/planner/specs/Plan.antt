@@ -76,7 +76,8 @@ pub record RefusedFor (r : Refusal) (before after : Buffers) (a : Answer) : Type
   pub delays : after .delays ≡ (if blanksOf r then replicate 64 0 else before .delays)
   pub cells : after .cells ≡ before .cells
 
--- The sheet is lent to be read, so that plan cannot change it.
+-- The sheet is lent to be read, so that plan cannot change it. Number and place follow from the two other fields; they
+-- say in the paper's numbers which checks failed.
 pub record Plan (s : List ℕ) (before after : Buffers) (a : Answer) : Type 0 where
   pub number : answerNumber a ≡ numberIn (planVerdict s before)
   pub place : answerPlace a ≡ placeIn (planVerdict s before)

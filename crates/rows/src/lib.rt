@@ -20,7 +20,7 @@ use cells::times::period_at;
 use rail::Train;
 
 // The excess at each station of a run, and what keep costs there but for the cell after it.
-pub struct Keeping {
+struct Keeping {
     pub excess: [u64; 64],
     pub keep: [u64; 64],
 }

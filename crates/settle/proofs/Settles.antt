@@ -1,5 +1,5 @@
 -- Settled work reads no more of a book than books alike have in common: what is settled for one is settled for the
--- other.
+-- other. And buffers are equal list by list.
 -- Assumes nothing.
 use mathlib.Core.Path.{_≡_, ap, sym, _∙_}
 use mathlib.Core.List.{List}
@@ -19,6 +19,10 @@ use Rattle.cells.proofs.Written.{rows-worked-alike}
 use Rattle.cells.proofs.Shown.{shown-same}
 use Rattle.settle.specs.Buffers.{Buffers}
 use Rattle.settle.specs.Settled.{Settled}
+
+pub buffers-one : (b c : Buffers) → b .cells ≡ c .cells → b .decisions ≡ c .decisions → b .delays ≡ c .delays → b ≡ c
+buffers-one b c cells decisions delays =
+    λ i. record { cells = cells i; decisions = decisions i; delays = delays i }
 
 -- ---- by books alike
 

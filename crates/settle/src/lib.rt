@@ -75,8 +75,8 @@ fn settle(
     let walk = follow(cells, m, slack, source, period, sums);
     let shown = walk.decisions;
     copy_u8(decisions, &shown);
-    let late = walk.delays;
-    copy_u32(delays, &late);
+    let minutes = walk.delays;
+    copy_u32(delays, &minutes);
     cell_at(cells, m, Train(1), Train(1).leaves())
 }
 

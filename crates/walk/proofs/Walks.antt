@@ -6,13 +6,12 @@ use mathlib.Core.List.{List}
 use Prim.Native.Nat.{ℕ, _+_, _-_, _*_, _≤_, _<_}
 use native.Mathlib.Nat.{le-refl, le-trans, le-of-eq}
 use native.Mathlib.Omega.{arith}
-use lib.ListN.{getD, set, replicate, length-replicate}
+use lib.ListN.{set, replicate}
 use Rattle.lists.specs.Choice.{ifBelow}
-use Rattle.lists.specs.Run.{nth, padded}
+use Rattle.lists.specs.Run.{nth}
 use Rattle.lists.specs.Filled.{Filled}
 use Rattle.lists.proofs.Choice.{below-yes, below-no}
-use Rattle.lists.proofs.Run.{padded-ext, padded-past}
-use Rattle.lists.proofs.Fill.{filled-none, filled-next, filled-padded}
+use Rattle.lists.proofs.Fill.{filled-none, filled-next, filled-counted}
 use Rattle.line.specs.Line.{Running}
 use Rattle.line.specs.Policy.{Decision, Keep, Go, arrival}
 use Rattle.line.specs.Cells.{Table, Book, excessOn, arrivalOn, keepCost, goCost, prefer, choice, under, begins, decide}
@@ -112,13 +111,6 @@ pub record Walking (B : Book) (c : Table) (decisions delays : List ℕ) (first l
   pub arrived : late ≡ arrivalOn (B .running) (begins (choice B c) done) done
   pub shows : Filled 0 (λ k. ifBelow 1 (k + 1) (byteOf (decide B c (k + 1))) 0) done (replicate 64 0) decisions
   pub delayed : Filled 0 (λ k. arrival (B .running) (decide B c) (k + 1)) done (replicate 64 0) delays
-
--- a list that is filled over zeros, counted from 1
-filled-counted : (f : ℕ → ℕ) (size n : ℕ) (new : List ℕ) → Filled 0 (λ k. f (k + 1)) n (replicate size 0) new
-    → new ≡ padded size n f
-filled-counted f size n new h =
-    padded-ext size n f new (h .long ∙ length-replicate size 0) (λ k a b. h .filled k a)
-    (λ k a. ap (λ (xs : List ℕ). getD xs k 0) (filled-padded _ size n h) ∙ padded-past size n _ k a)
 
 module _ (B : Book) (c : Table) where
   -- train 1 begins the first run, on time, and has nobody to wait for

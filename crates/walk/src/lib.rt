@@ -61,9 +61,9 @@ fn prefer(excess: u64, keep: u64, go: u64) -> u8
 
 // What one station decides: the byte, the train that the run then begins with, and how late its
 // train arrives.
-pub struct Step {
+struct Step {
     pub decision: u8,
-    pub first: u32,
+    pub first: Train,
     pub late: u64,
 }
 
@@ -84,7 +84,7 @@ fn decide_at(
     ensures { λ r. ⌜ Stepped
         (bookIn m (now (slack .entry)) (now (source .entry)) (now (period .entry))
         (now (sums .entry)))
-        (tableOf m (now (cells .entry))) (first .0) (train .0) (r .decision) (r .first)
+        (tableOf m (now (cells .entry))) (first .0) (train .0) (r .decision) (r .first .0)
         (r .late) ⌝ }
 {
     let excess = excess_at(slack, train.leaves(), late);
@@ -95,13 +95,13 @@ fn decide_at(
     if decision == KEEP {
         return Step {
             decision,
-            first: first.0,
+            first,
             late: kept,
         };
     }
     Step {
         decision,
-        first: train.0,
+        first: train,
         late: arrives(source, train, 0),
     }
 }
@@ -129,25 +129,16 @@ pub fn follow(
 {
     let mut decisions = [0u8; 64];
     let mut delays = [0u32; 64];
-    let mut first = 1;
+    let mut first = Train(1);
     let mut late = arrives(source, Train(1), 0);
     delays[0] = late as u32;
     let mut i = 2;
     while i <= m {
         let train = Train(i);
-        let step = decide_at(
-            Train(first),
-            train,
-            late,
-            cells,
-            m,
-            slack,
-            source,
-            period,
-            sums,
-        );
+        let step = decide_at(first, train, late, cells, m, slack, source, period, sums);
         let k = train.index();
-        first = step.first;
+        let begins = step.first;
+        first = begins;
         late = step.late;
         decisions[k] = step.decision;
         delays[k] = late as u32;

@@ -12,7 +12,7 @@ use Rattle.walk.proofs.follow.Tie as tie
 
 abbrev Inv-loop : tie.InvT-loop
 Inv-loop cells m slack source period sums decisions₀ delays₀ first₀ late₀ i₀ decisions delays first late i =
-    Walking (bookIn m slack source period sums) (tableOf m cells) decisions delays first late i
+    Walking (bookIn m slack source period sums) (tableOf m cells) decisions delays (first .0) late i
 
 abbrev μ-loop : tie.MeasureT-loop
 μ-loop cells m slack source period sums decisions₀ delays₀ first₀ late₀ i₀ decisions delays first late i = m + 1 - i
@@ -54,9 +54,10 @@ array-write-decisions c = search needs
 -- no train arrives later than `latest`
 cast-delays-2 : tie.Need-cast-delays-2 Inv-loop μ-loop
 cast-delays-2 c =
-    let turn = c .before .before in
+    let decided = c .before .before in
+    let turn = decided .before in
     let start = turn .before .before .before .before .before .before .before .before in
-    omega (arith, walk-late _ _ _ _ _ _ (start .pre) _ _ _ _ _ (turn .loop-test .taken) (c .before .decide-at .ensures))
+    omega (arith, walk-late _ _ _ _ _ _ (start .pre) _ _ _ _ _ (turn .loop-test .taken) (decided .decide-at .ensures))
 
 mul-delays : tie.Need-mul-delays Inv-loop μ-loop
 mul-delays c = search needs
@@ -73,8 +74,9 @@ loop-less c = search needs
 -- train i has decided and arrived
 loop-again : tie.Need-loop-again Inv-loop μ-loop
 loop-again c =
-    let turn = c .before .before in
-    walk-next _ _ _ _ _ _ _ (turn .before .loop .inv) _ _ _ (c .before .decide-at .ensures) _ (c .index .ensures)
+    let decided = c .before .before in
+    let turn = decided .before in
+    walk-next _ _ _ _ _ _ _ (turn .before .loop .inv) _ _ _ (decided .decide-at .ensures) _ (c .before .index .ensures)
     (turn .loop-test .taken) (omega arith)
 
 -- no train is left

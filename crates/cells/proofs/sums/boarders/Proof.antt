@@ -1,24 +1,27 @@
--- `sums::boarders` meets its contract. Invariant: the entries before i are held. Measure: the trains left.
+-- `sums::boarders` meets its contract. Invariant: the entries before i are held, the rest is 0. Measure: the trains left.
 -- Assumes nothing.
 use borrow.Author.Needs.{needs}
-use mathlib.Core.Path.{_≡_, refl}
-use Prim.Native.Nat.{_+_, _-_, _≤_, _<_}
+use mathlib.Core.Path.{_≡_, refl, _∙_}
+use Prim.Native.Nat.{ℕ, _+_, _-_, _≤_, _<_}
 use native.Mathlib.Omega.{arith}
 use lib.ListN.{length, length-set}
+use Rattle.lists.specs.Run.{nth}
 use Rattle.cells.specs.Given.{boardedIn}
-use Rattle.lists.proofs.Held.{Held, held-set}
+use Rattle.lists.proofs.Held.{Held, held-set, nth-set-other}
+use Rattle.lists.proofs.Fill.{zeros-at}
 use Rattle.cells.proofs.sums.boarders.Statement.{statement}
 use Rattle.cells.proofs.sums.boarders.Tie as tie
 
 abbrev Inv-loop : tie.InvT-loop
 Inv-loop sums m list₀ i₀ list i =
     (1 ≤ i) × (i ≤ m + 1) × (length list ≡ 64) × Held list (λ l. boardedIn m sums l l) 1 i
+    × ((l : ℕ) → i ≤ l → nth list l ≡ 0)
 
 abbrev μ-loop : tie.MeasureT-loop
 μ-loop sums m list₀ i₀ list i = m + 1 - i
 
 loop-holds : tie.Need-loop-holds Inv-loop μ-loop
-loop-holds c = (omega arith, omega arith, refl, λ l a b. absurd (omega arith))
+loop-holds c = (omega arith, omega arith, refl, λ l a b. absurd (omega arith), λ l a. zeros-at 64 (l - 1))
 
 boarded-requires : tie.Need-boarded-requires Inv-loop μ-loop
 boarded-requires c κs = search needs
@@ -53,12 +56,14 @@ loop-again c =
       held-set (at-loop .list) (c .index .result) (at-loop .i) _ (c .index .ensures) (inv .0) _ 1 (at-loop .i + 1)
           (omega arith) (omega (arith, within c, inv .2)) (c .before .boarded .ensures)
           (λ l a b n. inv .3 l a (omega arith)),
+      λ l a. nth-set-other (at-loop .list) (c .index .result) (at-loop .i) _ (c .index .ensures) (inv .0) l (omega arith)
+          (λ e. omega arith) ∙ inv .4 l (omega arith),
     )
 
 returns : tie.Need-returns Inv-loop μ-loop
 returns c =
     let inv = c .before .loop .inv in
-    record { long = inv .2; held = λ l a b. inv .3 l a (omega arith) }
+    record { long = inv .2; held = λ l a b. inv .3 l a (omega arith); rest = λ l a. inv .4 l (omega arith) }
 
 pub boarders-spec : {M : Type 1} → statement M
 boarders-spec =

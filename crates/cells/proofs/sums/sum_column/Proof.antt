@@ -1,9 +1,10 @@
 -- `sums::sum_column` meets its contract. Invariant: the places of the column from k + 1 on are summed. Measure: k.
 -- Assumes nothing.
 use borrow.Author.Needs.{needs}
-use mathlib.Core.Path.{ap, _∙_}
-use Prim.Native.Nat.{_≤_}
+use mathlib.Core.Path.{ap, sym, subst, _∙_}
+use Prim.Native.Nat.{_≤_, _<_}
 use native.Mathlib.Omega.{arith}
+use lib.ListN.{length}
 use Rattle.cells.specs.Summed.{pairIn}
 use Rattle.cells.proofs.Summing.{ColumnTo, column-start, column-next, column-end}
 use Rattle.cells.proofs.sums.sum_column.Statement.{statement}
@@ -15,47 +16,57 @@ Inv-loop sums₀ passengers m train to sum₀ k₀ sums sum k = ColumnTo m passe
 abbrev μ-loop : tie.MeasureT-loop
 μ-loop sums₀ passengers m train to sum₀ k₀ sums sum k = k
 
+leaves-requires : tie.Need-leaves-requires Inv-loop μ-loop
+leaves-requires c κs = search needs
+
 reaches-requires : tie.Need-reaches-requires Inv-loop μ-loop
 reaches-requires c κs = search needs
 
+-- the train boards last at the station that it leaves
 loop-holds : tie.Need-loop-holds Inv-loop μ-loop
-loop-holds c = column-start _ _ _ _
+loop-holds c =
+    let start = c .before .before .before .before .args in
+    subst (ColumnTo (start .m) (start .passengers .now) (start .train .0) (start .sums .now) (start .sums .now) 0)
+    (sym (c .before .leaves .ensures)) (column-start _ _ _ _)
 
+abbrev start-of : tie.In-loop Inv-loop μ-loop → tie.Start Inv-loop μ-loop
+start-of c = c .before .before .before .before .before .before
+
+room : (c : tie.In-loop Inv-loop μ-loop) → start-of c .args .train .0 ≤ 64
+room c = omega (arith, start-of c .pre .3, start-of c .pre .0 .trains)
+
+-- station k and the station that the train reaches are a pair of the line
 pair-requires : tie.Need-pair-requires Inv-loop μ-loop
 pair-requires c κs =
-    let start = c .before .before .before .before .before .pre in
-    let C = c .before .loop .inv in (
-      start .0,
-      record {
-        least = c .loop-test .taken;
-        apart = omega (arith, C .most, c .before .before .reaches .ensures);
-        most = omega (arith, start .3, c .before .before .reaches .ensures);
-      },
-    )
+    let start = start-of c .pre in
+    let to = c .before .before .reaches .ensures in
+    (start .0,
+    record {
+      least = c .loop-test .taken;
+      apart = omega (arith, c .before .loop .inv .most, to);
+      most = omega (arith, start .3, to);
+    })
 
-room : (c : tie.In-loop Inv-loop μ-loop) → c .before .before .before .before .before .args .train .0 ≤ 64
-room c = let start = c .before .before .before .before .before .pre in omega (arith, start .3, start .0 .trains)
-
+-- at most 64 numbers of at most 10,000
 add-sum : tie.Need-add-sum Inv-loop μ-loop
 add-sum c = omega (arith, c .before .before .loop .inv .small, c .pair .ensures .1, room (c .before))
 
 square-requires : tie.Need-square-requires Inv-loop μ-loop
 square-requires c κs =
-    let C = c .before .before .loop .inv in
-    let start = c .before .before .before .before .before .before .pre in
-    (c .before .loop-test .taken, omega (arith, C .most, room (c .before)), start .2, room (c .before))
+    let turn = c .before in
+    (turn .loop-test .taken, omega (arith, turn .before .loop .inv .most, room turn), start-of turn .pre .2, room turn)
 
 mul-sums : tie.Need-mul-sums Inv-loop μ-loop
 mul-sums c = search needs
 
+-- a place of the square is one of 4,096
+within : (c : tie.After-square Inv-loop μ-loop) → c .square .result < length (c .before .before .before .loop .sums)
+within c =
+    let turn = c .before .before in
+    omega (arith, c .square .ensures .1, turn .before .loop .inv .long, start-of turn .pre .1)
+
 slice-write-sums : tie.Need-slice-write-sums Inv-loop μ-loop
-slice-write-sums c =
-    omega (
-      arith,
-      c .square .ensures .1,
-      c .before .before .before .loop .inv .long,
-      c .before .before .before .before .before .before .before .pre .1,
-    )
+slice-write-sums c = within c
 
 sub-k : tie.Need-sub-k Inv-loop μ-loop
 sub-k c = search needs
@@ -63,21 +74,23 @@ sub-k c = search needs
 loop-less : tie.Need-loop-less Inv-loop μ-loop
 loop-less c = search needs
 
+-- place (k, l) is the one below it and one pair more
 loop-again : tie.Need-loop-again Inv-loop μ-loop
 loop-again c =
-    let at-loop = c .before .before .before .loop in
-    let start = c .before .before .before .before .before .before .before in
+    let turn = c .before .before in
+    let at-loop = turn .before .loop in
+    let start = start-of turn .args in
     let pair = c .before .pair in
-    let to = c .before .before .before .before .reaches .ensures in
+    let to = turn .before .before .reaches .ensures in
     column-next _ _ _ _ (at-loop .sums) (at-loop .sum) (at-loop .k) (c .square .result) (pair .result) (at-loop .inv)
-    (c .before .before .loop-test .taken) (room (c .before .before)) (c .square .ensures .0)
-    (omega (arith, c .square .ensures .1, at-loop .inv .long, start .pre .1))
-    (pair .ensures .0 ∙ ap (pairIn (start .args .m) (start .args .passengers .now) (at-loop .k)) to)
+    (turn .loop-test .taken) (room turn) (c .square .ensures .0) (within c)
+    (pair .ensures .0 ∙ ap (pairIn (start .m) (start .passengers .now) (at-loop .k)) to)
     (pair .ensures .1)
 
 same-length : tie.Need-same-length Inv-loop μ-loop
 same-length c = c .before .loop .inv .long
 
+-- no station is left
 returns : tie.Need-returns Inv-loop μ-loop
 returns c = column-end _ _ _ _ _ _ _ (c .before .loop .inv) (omega arith)
 
@@ -87,6 +100,7 @@ sum-column-spec =
     (tie.spec
     Inv-loop
     μ-loop
+    leaves-requires
     reaches-requires
     loop-holds
     pair-requires

@@ -4,7 +4,7 @@ use borrow.Author.Needs.{needs}
 use mathlib.Core.Path.{refl}
 use Prim.Native.Nat.{_+_, _-_}
 use native.Mathlib.Omega.{arith}
-use Rattle.cells.proofs.Summing.{SummedTo, summed-next}
+use Rattle.cells.proofs.Summing.{SummedTo, summed-start, summed-next}
 use Rattle.cells.proofs.sums.sums_of.Statement.{statement}
 use Rattle.cells.proofs.sums.sums_of.Tie as tie
 
@@ -15,8 +15,7 @@ abbrev μ-loop : tie.MeasureT-loop
 μ-loop passengers m sums₀ i₀ sums i = m + 1 - i
 
 loop-holds : tie.Need-loop-holds Inv-loop μ-loop
-loop-holds c =
-    record { least = omega arith; most = omega arith; long = refl; summed = λ k l a b d. absurd (omega arith) }
+loop-holds c = summed-start _ _
 
 slice-aggregate-sum-column : tie.Need-slice-aggregate-sum-column Inv-loop μ-loop
 slice-aggregate-sum-column c = search needs
@@ -39,7 +38,13 @@ loop-again c =
 returns : tie.Need-returns Inv-loop μ-loop
 returns c =
     let S = c .before .loop .inv in
-    record { long = S .long; summed = λ k l a b d. S .summed k l a b (omega (arith, c .loop-test .left)) }
+    let end = c .loop-test .left in
+    record {
+      long = S .long;
+      summed = λ k l a b d. S .summed k l a b (omega arith);
+      below = λ k l a b d. S .below k l a b (omega arith);
+      past = λ k l a b. S .ahead k l (omega (arith, S .most)) b;
+    }
 
 pub sums-of-spec : {M : Type 1} → statement M
 sums-of-spec =
