@@ -29,8 +29,9 @@ def case(name, data, lengths, right, found):
 
 
 def planned(name, data, total, decisions, delays, rows):
-    """An accepted line. The decisions are those of trains 2 to m: "decision byte 1 is 0, bytes 2 to m the plan, the rest 0;
-    arrival delays, the rest 0". All m(m+1)/2 cells in use are filled, and "other places are never written"."""
+    """An accepted line. The decisions are those of trains 2 to m: "decision byte 1 is 0, bytes 2 to m the
+    plan, the rest 0; arrival delays, the rest 0". All m(m+1)/2 cells in use are filled, and "other places
+    are never written"."""
     m = data[0] // 2
     found, _ = answer(data)
     right = [FOUND if total is FOUND else 'plan 0 0 %d' % total,

@@ -76,8 +76,9 @@ loop-again : tie.Need-loop-again Inv-loop μ-loop
 loop-again c =
     let decided = c .before .before in
     let turn = decided .before in
+    let start = turn .before .before .before .before .before .before .before .before in
     walk-next _ _ _ _ _ _ _ (turn .before .loop .inv) _ _ _ (decided .decide-at .ensures) _ (c .before .index .ensures)
-    (turn .loop-test .taken) (omega arith)
+    (turn .loop-test .taken) (omega (arith, start .pre .given .run .trains))
 
 -- no train is left
 returns : tie.Need-returns Inv-loop μ-loop

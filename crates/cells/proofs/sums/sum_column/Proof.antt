@@ -39,13 +39,14 @@ room c = omega (arith, start-of c .pre .3, start-of c .pre .0 .trains)
 pair-requires : tie.Need-pair-requires Inv-loop μ-loop
 pair-requires c κs =
     let start = start-of c .pre in
-    let to = c .before .before .reaches .ensures in
-    (start .0,
-    record {
-      least = c .loop-test .taken;
-      apart = omega (arith, c .before .loop .inv .most, to);
-      most = omega (arith, start .3, to);
-    })
+    let to = c .before .before .reaches .ensures in (
+      start .0,
+      record {
+        least = c .loop-test .taken;
+        apart = omega (arith, c .before .loop .inv .most, to);
+        most = omega (arith, start .3, to);
+      },
+    )
 
 -- at most 64 numbers of at most 10,000
 add-sum : tie.Need-add-sum Inv-loop μ-loop

@@ -1,7 +1,6 @@
 -- `sums::sums_of` meets its contract. Invariant: the columns before i are summed. Measure: the columns left.
 -- Assumes nothing.
 use borrow.Author.Needs.{needs}
-use mathlib.Core.Path.{refl}
 use Prim.Native.Nat.{_+_, _-_}
 use native.Mathlib.Omega.{arith}
 use Rattle.cells.proofs.Summing.{SummedTo, summed-start, summed-next}
