@@ -14,8 +14,8 @@ pub fn square(row: u32, column: u32) -> usize
     64 * (row as usize - 1) + (column as usize - 1)
 }
 
-// The cell of the run from `first` at station `at`, of a line of `m` trains. In this layout it stands
-// in the same place whatever `m` is.
+// The cell of the run from `first` at station `at`, of a line of `m` trains. In this layout it
+// stands in the same place whatever `m` is.
 pub fn place(m: u32, first: Train, at: Station) -> usize
     requires { ⌜ (1 ≤ first .0) × (first .0 ≤ at .0) × (at .0 ≤ m) × (m ≤ 64) ⌝ }
     ensures { λ r. ⌜ r ≡ place m (first .0) (at .0) ⌝ }

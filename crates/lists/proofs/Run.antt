@@ -110,7 +110,8 @@ listed-each d f g a n e i u v =
     ∙ listed-at g d a n (i - a) (omega arith))
 
 -- a list of f 1 to f n, and then 0
-pub listed-padded : (size n : ℕ) (f : ℕ → ℕ) (xs : List ℕ) → listed f 1 n ≡ xs → padded size n f ≡ padded size n (nth xs)
+pub listed-padded : (size n : ℕ) (f : ℕ → ℕ) (xs : List ℕ) → listed f 1 n ≡ xs
+    → padded size n f ≡ padded size n (nth xs)
 listed-padded size n f xs e =
     padded-same size n f (nth xs)
     (λ i u v.

@@ -71,7 +71,8 @@ module _ (before after after′ : Buffers) where
       → (a ≡ a′) × (after ≡ after′)
   refused-for-one r a a′ P Q = (
     P .answer ∙ sym (Q .answer),
-    buffers-one after after′ (P .cells ∙ sym (Q .cells)) (P .decisions ∙ sym (Q .decisions)) (P .delays ∙ sym (Q .delays)),
+    buffers-one after after′ (P .cells ∙ sym (Q .cells)) (P .decisions ∙ sym (Q .decisions))
+        (P .delays ∙ sym (Q .delays)),
   )
 
 pub plan-outcome-one : (s : List ℕ) (before after after′ : Buffers) (a a′ : Answer) → Plan s before after a

@@ -10,7 +10,8 @@ use Rattle.lists.proofs.Order.{zero-not-one}
 use Rattle.lists.proofs.Run.{padded-nth}
 use Rattle.cells.specs.Shown.{shown}
 use Rattle.planner.specs.Sheets.{decisionsB, decisionsB13}
-use Rattle.planner.specs.Useless.{RefusesAllBreaks, SameDecisionsBreak, AllKeepBreaks, DoesNothingBreaks, StaysBlankBreaks}
+use Rattle.planner.specs.Useless.{RefusesAllBreaks, SameDecisionsBreak, AllKeepBreaks, DoesNothingBreaks}
+use Rattle.planner.specs.Useless.{StaysBlankBreaks}
 use Rattle.planner.proofs.Sheets.{answers-b, answers-b13}
 
 -- byte 2 of 64, the first three of which are given

@@ -1,10 +1,10 @@
 -- The useless versions of plan. Document 01, "What the contracts have to say": each of them breaks the contract, on
 -- sheet B with buffers of the right lengths.
---   RefusesAllBreaks      one that refuses all sheets: sheet B is never refused
---   SameDecisionsBreak   one with the same decisions for all lines: on sheet B they differ from those on sheet B with T 13,
---   AllKeepBreaks         and are not keep throughout
---   DoesNothingBreaks     one that does nothing: decisions other than the plan's do not stay as they were,
---   StaysBlankBreaks      nor do blank ones
+--   RefusesAllBreaks     one that refuses all sheets: sheet B is never refused
+--   SameDecisionsBreak   one with the same decisions for all lines: those on sheet B differ from those on B with T 13,
+--   AllKeepBreaks        and are not keep throughout
+--   DoesNothingBreaks    one that does nothing: decisions other than the plan's do not stay as they were,
+--   StaysBlankBreaks     nor do blank ones
 -- Assumes nothing.
 use Prim.Native.Nat.{ℕ}
 use mathlib.Core.Path.{_≡_}

@@ -38,6 +38,7 @@ lent-to c =
     let start = c .before .before .before .before .before .args in
     buffers (start .cells .now) (start .decisions .now) (start .delays .now)
 
+-- a length is wrong: nothing is written
 returns : tie.Need-returns
 unfolding planVerdict
 returns c =
@@ -69,6 +70,7 @@ enum-known-answer-2 c = search needs
 right : (c : tie.After-enum-told) → RightLengths (lent-to (c .before .before))
 right c = right-of-fine _ (sym (c .before .before .check-buffers .ensures) ∙ c .enum-told .given .1)
 
+-- every row is worked, so that no later row is left to ask for
 settle-numbers-requires : tie.Need-settle-numbers-requires
 settle-numbers-requires c κs =
     let decoded = c .before .before .before .before .before .before in
@@ -83,6 +85,7 @@ same-length-3 c = search needs
 same-length-4 : tie.Need-same-length-4
 same-length-4 c = search needs
 
+-- the sheet is refused: blanks
 returns-2 : tie.Need-returns-2
 unfolding planVerdict
 returns-2 c =
@@ -106,6 +109,7 @@ same-length-6 c = search needs
 same-length-7 : tie.Need-same-length-7
 same-length-7 c = search needs
 
+-- the sheet is accepted: its plan
 returns-3 : tie.Need-returns-3
 unfolding planVerdict
 returns-3 c =

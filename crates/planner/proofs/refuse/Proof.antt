@@ -21,6 +21,7 @@ same-length c = search needs
 same-length-2 : tie.Need-same-length-2
 same-length-2 c = search needs
 
+-- the refusal is one that blanks
 returns : tie.Need-returns
 returns c =
     let asked = c .before .before .before .before .before .before .before .before in

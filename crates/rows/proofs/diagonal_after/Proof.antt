@@ -23,6 +23,7 @@ abbrev μ-loop : tie.MeasureT-loop
 add-i : tie.Need-add-i Inv-loop μ-loop
 add-i c = search needs
 
+-- only zeros yet
 loop-holds : tie.Need-loop-holds Inv-loop μ-loop
 loop-holds c =
     let start = c .before .before in (
@@ -64,6 +65,7 @@ add-i-2 c = search needs
 loop-less : tie.Need-loop-less Inv-loop μ-loop
 loop-less c = search needs
 
+-- one row more
 loop-again : tie.Need-loop-again Inv-loop μ-loop
 loop-again c =
     let at-loop = c .before .before .before .before .loop in
@@ -82,6 +84,7 @@ loop-again c =
           ∙ I .5 l a b,
     )
 
+-- no row is left
 returns : tie.Need-returns Inv-loop μ-loop
 returns c =
     let I = c .before .loop .inv in

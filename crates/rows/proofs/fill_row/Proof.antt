@@ -21,6 +21,7 @@ abbrev μ-loop : tie.MeasureT-loop
 index-requires : tie.Need-index-requires Inv-loop μ-loop
 index-requires c κs = search needs
 
+-- no cell is filled yet
 loop-holds : tie.Need-loop-holds Inv-loop μ-loop
 loop-holds c = filled-start _ _ _ _ _ _ _ refl
 
@@ -44,6 +45,7 @@ size c =
     let room = c .before .before .before .before .before .before .before .before .pre in
     omega (arith, room .first, room .last)
 
+-- the place is one of 64
 add-k : tie.Need-add-k Inv-loop μ-loop
 add-k c = omega (arith, spot c .0)
 
@@ -59,6 +61,7 @@ mul-lesser-2 c = search needs
 shared-slice-read-lesser-2 : tie.Need-shared-slice-read-lesser-2 Inv-loop μ-loop
 shared-slice-read-lesser-2 c = search needs
 
+-- a row comes to at most 64 times the limit
 add-lesser : tie.Need-add-lesser Inv-loop μ-loop
 add-lesser c =
     let turn = c .before .before in
@@ -76,6 +79,7 @@ mul-lesser-4 c = search needs
 shared-slice-read-lesser-4 : tie.Need-shared-slice-read-lesser-4 Inv-loop μ-loop
 shared-slice-read-lesser-4 c = search needs
 
+-- a cost and a first cell fit
 add-lesser-2 : tie.Need-add-lesser-2 Inv-loop μ-loop
 add-lesser-2 c = omega (arith, spot (c .before .before .before .before))
 
@@ -91,15 +95,18 @@ slice-write-row c = search needs
 loop-less : tie.Need-loop-less Inv-loop μ-loop
 loop-less c = search needs
 
+-- one cell more
 loop-again : tie.Need-loop-again Inv-loop μ-loop
 loop-again c =
     let turn = c .before .before .before .before .before in
     filled-back _ _ _ _ _ _ _ _ _ _ (turn .before .loop .inv) (turn .loop-test .taken) (c .lesser .ensures .0)
     (c .lesser .ensures .1) (spot turn .1)
 
+-- the row keeps its length
 same-length : tie.Need-same-length Inv-loop μ-loop
 same-length c = c .before .loop .inv .long
 
+-- no cell is left
 returns : tie.Need-returns Inv-loop μ-loop
 returns c =
     let start = c .before .before .before .before .before .before .before .before in

@@ -19,6 +19,7 @@ Inv-loop first m period sums boarding go₀ sum₀ i₀ go sum i = GoneTo m (fir
 abbrev μ-loop : tie.MeasureT-loop
 μ-loop first m period sums boarding go₀ sum₀ i₀ go sum i = i
 
+-- nobody leaves after the last train
 loop-holds : tie.Need-loop-holds Inv-loop μ-loop
 loop-holds c =
     let start = c .before .before .before in
@@ -58,6 +59,7 @@ turn c =
       boarding-le _ _ _ _ (start .pre .3) (start .pre .0) _ _ _ (at-loop .inv) taken _ _ e (boarding-here c),
     )
 
+-- those who leave are no more than everyone
 add-sum : tie.Need-add-sum Inv-loop μ-loop
 add-sum c = omega (arith, turn c .0)
 
@@ -67,6 +69,7 @@ mul-cost c = search needs
 shared-slice-read-cost : tie.Need-shared-slice-read-cost Inv-loop μ-loop
 shared-slice-read-cost c = search needs
 
+-- those who board here are among them
 sub-cost : tie.Need-sub-cost Inv-loop μ-loop
 sub-cost c = turn (c .before) .1
 
@@ -83,6 +86,7 @@ minutes c =
     let start = c .before .before .before .before .before .before .before .before .before .before .before .args in
     c .period-at .ensures ∙ ap (λ (s : ℕ). nth (start .period .now) s) (c .before .leaves .ensures)
 
+-- few enough, and a period of at most 1,440
 cost-requires : tie.Need-cost-requires Inv-loop μ-loop
 cost-requires c κs =
     let start = c .before .before .before .before .before .before .before .before .before .before .before .pre in
@@ -103,6 +107,7 @@ sub-i c = search needs
 loop-less : tie.Need-loop-less Inv-loop μ-loop
 loop-less c = search needs
 
+-- one station more
 loop-again : tie.Need-loop-again Inv-loop μ-loop
 loop-again c =
     let called = c .before .before .before .before in
@@ -113,6 +118,7 @@ loop-again c =
     (ap (λ (n : ℕ). at-loop .sum + n) (called .leaving .ensures .0)) (boarding-here called) _ _ _
     (called .before .index .ensures) (minutes (c .before)) (c .cost .ensures .0)
 
+-- no station is left but the first
 returns : tie.Need-returns Inv-loop μ-loop
 returns c = gone-end _ _ _ _ _ _ _ (c .before .before .loop .inv) (omega arith)
 

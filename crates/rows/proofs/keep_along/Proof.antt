@@ -20,6 +20,7 @@ Inv-loop first m slack source sums excess₀ keep₀ late₀ i₀ excess keep la
 abbrev μ-loop : tie.MeasureT-loop
 μ-loop first m slack source sums excess₀ keep₀ late₀ i₀ excess keep late i = m + 1 - i
 
+-- the run begins on time
 loop-holds : tie.Need-loop-holds Inv-loop μ-loop
 loop-holds c = kept-start _ _ _ _ _ (replicate 64 0) refl (c .before .before .before .pre .1)
 
@@ -38,6 +39,7 @@ excess-here c =
     let at-loop = c .before .before .before .loop in
     c .excess-at .ensures ∙ ap (λ (s : ℕ). at-loop .late - nth (start .slack .now) s) (c .before .leaves .ensures)
 
+-- an excess is no later than a train
 arrives-requires : tie.Need-arrives-requires Inv-loop μ-loop
 arrives-requires c κs =
     let start = c .before .before .before .before .before .before .before .pre in
@@ -77,6 +79,7 @@ array-write-excess c = search needs
 leaving-requires : tie.Need-leaving-requires Inv-loop μ-loop
 leaving-requires c κs = search needs
 
+-- no more than everyone, no later than a train
 cost-requires : tie.Need-cost-requires Inv-loop μ-loop
 cost-requires c κs = (c .leaving .ensures .1, arrived (c .before .before) .1)
 
@@ -92,6 +95,7 @@ add-i c = search needs
 loop-less : tie.Need-loop-less Inv-loop μ-loop
 loop-less c = search needs
 
+-- one station more
 loop-again : tie.Need-loop-again Inv-loop μ-loop
 loop-again c =
     let turn = c .before .before .before in
@@ -102,6 +106,7 @@ loop-again c =
     (c .before .before .index .ensures)
     (c .cost .ensures .0 ∙ ap (λ (n : ℕ). n * turn .arrives .result) (c .before .leaving .ensures .0))
 
+-- no station is left
 returns : tie.Need-returns Inv-loop μ-loop
 returns c = kept-end _ _ _ _ _ _ _ _ _ (c .before .loop .inv) (omega arith)
 

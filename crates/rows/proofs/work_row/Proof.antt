@@ -60,9 +60,11 @@ part-size c =
     let size : a + n - a ≡ n = omega arith in
     mid-len a (a + n) (start .args .cells .now) (omega (arith, spot c .1, start .pre .long)) ∙ size
 
+-- the end of the row fits
 add-b-2 : tie.Need-add-b-2
 add-b-2 c = omega (arith, spot (c .before) .1)
 
+-- and so does its beginning
 mul-fill-row : tie.Need-mul-fill-row
 mul-fill-row c = omega (arith, spot (c .before) .1)
 
@@ -72,6 +74,7 @@ sub-fill-row c = search needs
 part-fill-row-start : tie.Need-part-fill-row-start
 part-fill-row-start c = search needs
 
+-- it lies within the cells
 part-fill-row-end : tie.Need-part-fill-row-end
 part-fill-row-end c = omega (arith, spot (c .before) .1, start-of (c .before) .pre .long)
 
@@ -84,6 +87,7 @@ slice-aggregate-fill-row-2 c = search needs
 slice-aggregate-fill-row-3 : tie.Need-slice-aggregate-fill-row-3
 slice-aggregate-fill-row-3 c = search needs
 
+-- what the row is filled from can be added
 fill-row-requires : tie.Need-fill-row-requires
 fill-row-requires c κs =
     let placed = c .before .before .before .before .before in
@@ -93,9 +97,11 @@ fill-row-requires c κs =
     (go .before .before .before .keep-along .ensures) (go .go-along .ensures) (start .pre .long-diagonal)
     (start .pre .most))
 
+-- its first place fits
 mul-result : tie.Need-mul-result
 mul-result c = omega (arith, spot (c .before .before .before .before .before .before .before .before) .1)
 
+-- and is there, now that the part is back
 slice-read-result : tie.Need-slice-read-result
 slice-read-result c =
     let filled = c .before .before .before in
@@ -110,6 +116,7 @@ slice-read-result c =
 same-length : tie.Need-same-length
 same-length c = search needs
 
+-- the part put back is the row worked
 returns : tie.Need-returns
 returns c =
     let filled = c .before .before .before in

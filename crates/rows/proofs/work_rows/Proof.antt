@@ -21,6 +21,7 @@ boarders-requires c κs = search needs
 diagonal-after-requires : tie.Need-diagonal-after-requires Inv-loop μ-loop
 diagonal-after-requires c κs = search needs
 
+-- no row is worked yet
 loop-holds : tie.Need-loop-holds Inv-loop μ-loop
 loop-holds c =
     let start = c .before .before .before .before .before .before .before .before in
@@ -32,6 +33,7 @@ slice-aggregate-work-row c = search needs
 slice-aggregate-work-row-2 : tie.Need-slice-aggregate-work-row-2 Inv-loop μ-loop
 slice-aggregate-work-row-2 c = search needs
 
+-- what the rows are worked from serves each row
 work-row-requires : tie.Need-work-row-requires Inv-loop μ-loop
 work-row-requires c κs =
     let at-loop = c .before .before .before .before in
@@ -62,6 +64,7 @@ sub-i c = search needs
 loop-less : tie.Need-loop-less Inv-loop μ-loop
 loop-less c = search needs
 
+-- one row more
 loop-again : tie.Need-loop-again Inv-loop μ-loop
 loop-again c =
     let called = c .before .before .before in
@@ -70,9 +73,11 @@ loop-again c =
     worked-back _ _ _ _ _ _ _ _ (turn .before .loop .inv) (start .pre .given .run .trains) (turn .loop-test .taken)
     (start .pre .last) (called .work-row .ensures) _ (c .index .ensures)
 
+-- the cells keep their length
 same-length : tie.Need-same-length Inv-loop μ-loop
 same-length c = c .before .loop .inv .long
 
+-- no row is left
 returns : tie.Need-returns Inv-loop μ-loop
 returns c = worked-end _ _ _ _ _ _ (c .before .loop .inv) (omega arith)
 

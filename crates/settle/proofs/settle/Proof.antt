@@ -12,6 +12,7 @@ use Rattle.cells.proofs.Shown.{shown-length}
 use Rattle.settle.proofs.settle.Statement.{statement}
 use Rattle.settle.proofs.settle.Tie as tie
 
+-- the later rows' first cells are among their cells in use
 work-rows-requires : tie.Need-work-rows-requires
 work-rows-requires c κs =
     let start = c .before .before .before .before .before .before .before .before in
@@ -32,6 +33,7 @@ walk-of c = c .before .before .before .before
 abbrev bytes-of : tie.After-copy-u32 → tie.After-copy-u8
 bytes-of c = c .before .before .before .before .before .before
 
+-- after the rows are worked every cell is in range
 follow-requires : tie.Need-follow-requires
 follow-requires c κs =
     let worked = c .before .before .before in
@@ -45,6 +47,7 @@ follow-requires c κs =
 slice-aggregate-copy-u8 : tie.Need-slice-aggregate-copy-u8
 slice-aggregate-copy-u8 c = search needs
 
+-- 64 bytes on either side
 copy-u8-requires : tie.Need-copy-u8-requires
 copy-u8-requires c κs =
     let walked = c .before .before .before in
@@ -54,6 +57,7 @@ copy-u8-requires c κs =
 slice-aggregate-copy-u32 : tie.Need-slice-aggregate-copy-u32
 slice-aggregate-copy-u32 c = search needs
 
+-- 64 delays on either side
 copy-u32-requires : tie.Need-copy-u32-requires
 copy-u32-requires c κs =
     let walked = c .before .before .before .before .before .before .before .before .before in
@@ -63,6 +67,7 @@ copy-u32-requires c κs =
 leaves-requires : tie.Need-leaves-requires
 leaves-requires c κs = search needs
 
+-- cell (1, 1) is one of the line's
 cell-at-requires : tie.Need-cell-at-requires
 cell-at-requires c κs =
     let walked = walk-of (bytes-of (c .before .before .before .before)) in
@@ -83,6 +88,7 @@ same-length-2 c = search needs
 same-length-3 : tie.Need-same-length-3
 same-length-3 c = search needs
 
+-- rows as they were worked, decisions and delays as they were walked
 returns : tie.Need-returns
 returns c =
     let minutes = c .before .before .before .before .before in

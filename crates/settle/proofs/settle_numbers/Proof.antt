@@ -12,6 +12,7 @@ slice-aggregate-slacks c = search needs
 slice-aggregate-slacks-2 : tie.Need-slice-aggregate-slacks-2
 slice-aggregate-slacks-2 c = search needs
 
+-- no slack is under 0
 slacks-requires : tie.Need-slacks-requires
 slacks-requires c κs =
     let start = c .before .before .before .before .before .before .before .before .before in
@@ -23,6 +24,7 @@ slice-aggregate-sums-of c = search needs
 abbrev start-of : tie.After-sums-of → tie.Start
 start-of c = c .before .before .before .before .before .before .before .before .before .before .before .before
 
+-- the fields are those of a line in range
 sums-of-requires : tie.Need-sums-of-requires
 sums-of-requires c κs =
     let start = c .before .before .before .before .before .before .before .before .before .before .before in
@@ -40,6 +42,7 @@ slice-aggregate-settle-3 c = search needs
 slice-aggregate-settle-4 : tie.Need-slice-aggregate-settle-4
 slice-aggregate-settle-4 c = search needs
 
+-- so are the lists
 settle-requires : tie.Need-settle-requires
 settle-requires c κs =
     let summed = c .before .before .before .before .before .before .before in
@@ -56,6 +59,7 @@ same-length-2 c = search needs
 same-length-3 : tie.Need-same-length-3
 same-length-3 c = search needs
 
+-- and their book is alike to that of the line
 returns : tie.Need-returns
 returns c =
     let settled = c .before .before .before .before .before .before in

@@ -51,6 +51,7 @@ reads c =
       nth-index (start .driving .now) _ (i - 1) back,
     )
 
+-- the train departs no earlier than its feeder
 sub-result : tie.Need-sub-result
 sub-result c =
     let read = reads (c .before .before) in
@@ -62,11 +63,13 @@ mul-result-3 c = search needs
 shared-slice-read-result-3 : tie.Need-shared-slice-read-result-3
 shared-slice-read-result-3 c = search needs
 
+-- nor before the feeder is planned to arrive
 sub-result-2 : tie.Need-sub-result-2
 sub-result-2 c =
     let read = reads (c .before .before .before) in
     omega (arith, read, c .before .before .before .before .before .before .before .before .before .pre .enough)
 
+-- the three numbers are those of the definition
 returns : tie.Need-returns
 returns c =
     let read = reads (c .before .before .before) in

@@ -18,9 +18,11 @@ Inv-loop m departures driving list₀ i₀ list i =
 abbrev μ-loop : tie.MeasureT-loop
 μ-loop m departures driving list₀ i₀ list i = m + 1 - i
 
+-- no slack is taken yet
 loop-holds : tie.Need-loop-holds Inv-loop μ-loop
 loop-holds c = (omega arith, refl, λ l a b. absurd (omega arith))
 
+-- each can be taken
 slack-requires : tie.Need-slack-requires Inv-loop μ-loop
 slack-requires c κs = c .before .before .before .before .pre .1 _ (c .before .loop .inv .0) (c .loop-test .taken)
 
@@ -39,6 +41,7 @@ add-i c = search needs
 loop-less : tie.Need-loop-less Inv-loop μ-loop
 loop-less c = search needs
 
+-- one station more
 loop-again : tie.Need-loop-again Inv-loop μ-loop
 loop-again c =
     let at-loop = c .before .before .before .loop in
@@ -52,6 +55,7 @@ loop-again c =
           (λ l a b n. I .2 l a (omega arith)),
     )
 
+-- no station is left
 returns : tie.Need-returns Inv-loop μ-loop
 returns c =
     let I = c .before .loop .inv in

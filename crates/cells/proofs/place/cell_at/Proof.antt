@@ -12,6 +12,7 @@ use Rattle.cells.proofs.place.cell_at.Tie as tie
 place-requires : tie.Need-place-requires
 place-requires c κs = search needs
 
+-- a cell in use stands within what is lent
 within : (c : tie.After-place) → c .place .result < 4096
 within c =
     let start = c .before .before .before .before in
@@ -24,11 +25,13 @@ mul-result c = omega (arith, within c)
 shared-slice-read-result : tie.Need-shared-slice-read-result
 shared-slice-read-result c = omega (arith, within (c .before), c .before .before .before .before .before .pre .3)
 
+-- a cell in use
 returns : tie.Need-returns
 returns c =
     ap (λ (p : ℕ). getD (c .before .before .before .before .before .args .cells .now) p 0) (c .before .place .ensures)
     ∙ sym (table-in _ _ _ _ (c .before .before .if1 .taken))
 
+-- past the last column
 returns-2 : tie.Need-returns-2
 returns-2 c = sym (table-past _ _ _ _ (c .if1 .left))
 

@@ -1,4 +1,4 @@
--- `place::square` meets its contract.
+-- `place::square` meets its contract: it is the definition's product and sum.
 -- Assumes nothing.
 use borrow.Author.Needs.{needs}
 use mathlib.Core.Path.{sym}

@@ -17,6 +17,7 @@ Inv-loop sums m first train sum₀ t₀ sum t =
 abbrev μ-loop : tie.MeasureT-loop
 μ-loop sums m first train sum₀ t₀ sum t = t
 
+-- nobody leaves after the last train
 loop-holds : tie.Need-loop-holds Inv-loop μ-loop
 loop-holds c = (omega (arith, c .before .pre .3), omega arith, sym (boarded-none _ _ _ _ (omega arith)))
 
@@ -48,12 +49,14 @@ sub-t c = search needs
 loop-less : tie.Need-loop-less Inv-loop μ-loop
 loop-less c = search needs
 
+-- one train more
 loop-again : tie.Need-loop-again Inv-loop μ-loop
 loop-again c =
     let at-loop = c .before .before .before .loop in
     let e : at-loop .t ≡ at-loop .t - 1 + 1 = omega arith in
     (omega arith, omega arith, counted c .0 ∙ ap (boardedIn _ _ _) e)
 
+-- no train is left
 returns : tie.Need-returns Inv-loop μ-loop
 returns c =
     let at-loop = c .before .before .loop in

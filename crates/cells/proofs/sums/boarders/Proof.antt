@@ -1,4 +1,5 @@
--- `sums::boarders` meets its contract. Invariant: the entries before i are held, the rest is 0. Measure: the trains left.
+-- `sums::boarders` meets its contract. Invariant: the entries before i are held, the rest is 0. Measure: the trains
+-- left.
 -- Assumes nothing.
 use borrow.Author.Needs.{needs}
 use mathlib.Core.Path.{_≡_, refl, _∙_}
@@ -20,6 +21,7 @@ Inv-loop sums m list₀ i₀ list i =
 abbrev μ-loop : tie.MeasureT-loop
 μ-loop sums m list₀ i₀ list i = m + 1 - i
 
+-- only zeros yet
 loop-holds : tie.Need-loop-holds Inv-loop μ-loop
 loop-holds c = (omega arith, omega arith, refl, λ l a b. absurd (omega arith), λ l a. zeros-at 64 (l - 1))
 
@@ -29,6 +31,7 @@ boarded-requires c κs = search needs
 index-requires : tie.Need-index-requires Inv-loop μ-loop
 index-requires c κs = search needs
 
+-- the train is one of 64
 within : (c : tie.After-index Inv-loop μ-loop) → (c .index .result < 64) × (c .before .before .before .loop .i ≤ 64)
 within c =
     let most = c .before .before .before .before .before .pre .trains in
@@ -46,6 +49,7 @@ add-i c = omega (arith, within c)
 loop-less : tie.Need-loop-less Inv-loop μ-loop
 loop-less c = search needs
 
+-- one train more
 loop-again : tie.Need-loop-again Inv-loop μ-loop
 loop-again c =
     let at-loop = c .before .before .before .loop in
@@ -56,10 +60,12 @@ loop-again c =
       held-set (at-loop .list) (c .index .result) (at-loop .i) _ (c .index .ensures) (inv .0) _ 1 (at-loop .i + 1)
           (omega arith) (omega (arith, within c, inv .2)) (c .before .boarded .ensures)
           (λ l a b n. inv .3 l a (omega arith)),
-      λ l a. nth-set-other (at-loop .list) (c .index .result) (at-loop .i) _ (c .index .ensures) (inv .0) l (omega arith)
+      λ l a.
+          nth-set-other (at-loop .list) (c .index .result) (at-loop .i) _ (c .index .ensures) (inv .0) l (omega arith)
           (λ e. omega arith) ∙ inv .4 l (omega arith),
     )
 
+-- no train is left
 returns : tie.Need-returns Inv-loop μ-loop
 returns c =
     let inv = c .before .loop .inv in

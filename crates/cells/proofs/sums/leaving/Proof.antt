@@ -1,4 +1,4 @@
--- `sums::leaving` meets its contract.
+-- `sums::leaving` meets its contract: one number of the square, which is at most everyone.
 -- Assumes nothing.
 use borrow.Author.Needs.{needs}
 use mathlib.Core.Path.{_≡_, ap, _∙_}

@@ -28,12 +28,14 @@ add-i c = search needs
 loop-less : tie.Need-loop-less Inv-loop μ-loop
 loop-less c = search needs
 
+-- one column more
 loop-again : tie.Need-loop-again Inv-loop μ-loop
 loop-again c =
     let at-loop = c .before .before .before .before .loop in
     summed-next _ _ _ _ _ (c .before .before .before .before .before .before .pre .trains) (at-loop .inv)
     (c .before .before .before .loop-test .taken) (c .before .sum-column .ensures)
 
+-- no column is left
 returns : tie.Need-returns Inv-loop μ-loop
 returns c =
     let S = c .before .loop .inv in

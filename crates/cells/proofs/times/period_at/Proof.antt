@@ -1,4 +1,4 @@
--- `times::period_at` meets its contract.
+-- `times::period_at` meets its contract: one number of the list.
 -- Assumes nothing.
 use borrow.Author.Needs.{needs}
 use mathlib.Core.Path.{_∙_}
