@@ -3,7 +3,7 @@
 --   pairIn m passengers i j         those who board at i and leave at j
 --   Fields                          the fields of a line, each at most 10,000
 --   SumAt, ColumnSummed, Summed     one place, one column and the whole square hold their sums
---   Boarders m sums boarders        by train l, those who board at l or later and leave
+--   Boarders m sums boarding        by train l, those who board at l or later and leave
 -- Assumes nothing.
 use Prim.Native.Nat.{ℕ, _+_, _≤_, _<_}
 use mathlib.Core.Path.{_≡_}
