@@ -42,7 +42,7 @@ pair-requires c κs =
     let to = c .before .before .reaches .ensures in (
       start .0,
       record {
-        least = c .loop-test .taken;
+        least = omega (arith, c .loop-test .taken);
         apart = omega (arith, c .before .loop .inv .most, to);
         most = omega (arith, start .3, to);
       },
@@ -55,7 +55,7 @@ add-sum c = omega (arith, c .before .before .loop .inv .small, c .pair .ensures 
 square-requires : tie.Need-square-requires Inv-loop μ-loop
 square-requires c κs =
     let turn = c .before in
-    (turn .loop-test .taken, omega (arith, turn .before .loop .inv .most, room turn), start-of turn .pre .2, room turn)
+    (omega (arith, turn .loop-test .taken), omega (arith, turn .before .loop .inv .most, room turn), start-of turn .pre .2, room turn)
 
 mul-sums : tie.Need-mul-sums Inv-loop μ-loop
 mul-sums c = search needs
@@ -84,7 +84,7 @@ loop-again c =
     let pair = c .before .pair in
     let to = turn .before .before .reaches .ensures in
     column-next _ _ _ _ (at-loop .sums) (at-loop .sum) (at-loop .k) (c .square .result) (pair .result) (at-loop .inv)
-    (turn .loop-test .taken) (room turn) (c .square .ensures .0) (within c)
+    (omega (arith, turn .loop-test .taken)) (room turn) (c .square .ensures .0) (within c)
     (pair .ensures .0 ∙ ap (pairIn (start .m) (start .passengers .now) (at-loop .k)) to)
     (pair .ensures .1)
 
