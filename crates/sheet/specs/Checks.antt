@@ -42,8 +42,8 @@ rangesVerdict m T =
     andThen Fine
 
 -- the earliest minute at which train i may leave: when the train before it is planned to arrive, that is its departure
--- and its driving time; for train 1 it is 0. The slack at station i is the departure of train i less this, so that it is
--- under 0 exactly where the departure is below this
+-- and its driving time; for train 1 it is 0. The slack at station i is the departure of train i less this, so that it
+-- is under 0 exactly where the departure is below this
 unfoldable pub earliestOf : (ℕ → ℕ) → (ℕ → ℕ) → ℕ → ℕ
 earliestOf departure driving i = ifBelow 1 i (departure (i - 1) + driving (i - 1)) 0
 

@@ -2,7 +2,7 @@
 -- no gaps. Trains and passenger fields count from 1, bits and bytes from 0; s is a sheet, a list of bytes, and m its
 -- number of trains.
 --   trainsOf s, periodOf s    m and T of the sheet
---   Column                    fields of one width at equal distances: `width` bits from bit `first`, and again every `step`
+--   Column                    fields of one width at equal distances: `width` bits from bit `first`, and every `step`
 --   departureColumn, drivingColumn, delayColumn, passengerColumn m     the four columns behind the head
 --   entry s c k               the number in place k, from 0, of the column c
 --   departureOf s i, drivingOf s i, delayOf s i     the times of train i

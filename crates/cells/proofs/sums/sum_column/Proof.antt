@@ -55,7 +55,8 @@ add-sum c = omega (arith, c .before .before .loop .inv .small, c .pair .ensures 
 square-requires : tie.Need-square-requires Inv-loop μ-loop
 square-requires c κs =
     let turn = c .before in
-    (omega (arith, turn .loop-test .taken), omega (arith, turn .before .loop .inv .most, room turn), start-of turn .pre .2, room turn)
+    let some = turn .loop-test .taken in
+    (omega arith, omega (arith, turn .before .loop .inv .most, room turn), start-of turn .pre .2, room turn)
 
 mul-sums : tie.Need-mul-sums Inv-loop μ-loop
 mul-sums c = search needs
