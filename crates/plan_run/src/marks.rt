@@ -7,6 +7,7 @@ fn mark(index: usize) -> u64 {
     ((index % 65536) as u64 + 1) * 1000003
 }
 
+// Marks every place.
 pub fn put(cells: &mut [u64]) {
     let mut k = 0;
     while k < cells.len() {

@@ -24,7 +24,7 @@ fn left(cells: &[u64], decisions: &[u8], delays: &[u32]) {
     say::end();
 }
 
-// The seven bits of a byte that come first.
+// The first seven of a byte's eight bits.
 fn half(b: u8) -> usize
     ensures { λ r. ⌜ r ≤ 127 ⌝ }
 {
@@ -58,6 +58,7 @@ fn left_in_full(sheet: &[u8], a: Answer, cells: &[u64], decisions: &[u8], delays
     say::end();
 }
 
+// Plans, and says what was answered and what was left, in full or as sums.
 fn plan_into(
     sheet: &[u8],
     cells: &mut [u64],
@@ -90,6 +91,7 @@ fn plan_buffers(sheet: &[u8], a: usize, b: usize, c: usize, full: bool) {
     );
 }
 
+// A record: the lengths of cells, decisions and delays, then the sheet's length and the sheet.
 pub fn record(from: i32, full: bool) {
     let a = short(from);
     let b = short(from);

@@ -1,15 +1,18 @@
-// Lists in full: a space before each number.
+// Lists in full, one line each: a space before each number.
 ghost use Prim.Native.Nat.{_≤_};
 use records::parts;
 
+// The byte, as wide as what is said.
 fn wide_byte(b: u8) -> u64 {
     b as u64
 }
 
+// The number, as wide as what is said.
 fn wide(n: u32) -> u64 {
     n as u64
 }
 
+// A line of bytes.
 pub fn bytes(list: &[u8]) {
     let mut k = 0;
     while k < list.len() {
@@ -19,6 +22,7 @@ pub fn bytes(list: &[u8]) {
     say::end();
 }
 
+// A line of numbers of four bytes.
 pub fn numbers(list: &[u32]) {
     let mut k = 0;
     while k < list.len() {
@@ -28,6 +32,7 @@ pub fn numbers(list: &[u32]) {
     say::end();
 }
 
+// A line of numbers of eight bytes.
 fn longs(list: &[u64]) {
     let mut k = 0;
     while k < list.len() {
@@ -47,6 +52,7 @@ fn row(cells: &[u64], k: usize, m: usize)
     longs(parts::longs(parts::longs_behind(cells, 65 * (k - 1)), m - k + 1));
 }
 
+// The cells in use of m trains, row by row.
 pub fn rows(cells: &[u64], m: usize)
     requires { ⌜ m ≤ 127 ⌝ }
 {

@@ -10,6 +10,7 @@ pub fn byte(from: i32) -> u32
     if n == 1 { wide(read[0]) } else { 256 }
 }
 
+// The byte, as a number.
 fn wide(b: u8) -> u32
     ensures { λ r. ⌜ r ≤ 255 ⌝ }
 {
@@ -46,6 +47,7 @@ pub fn load(from: i32, bytes: &mut [u8]) {
     io::read_full(from, bytes);
 }
 
+// One byte of a name, as it is.
 fn letter(code: u32) {
     say::word(&[(code % 256) as u8]);
 }

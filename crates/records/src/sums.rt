@@ -20,24 +20,28 @@ fn with(sum: Sum, value: u64) -> Sum
     Sum { total, tail }
 }
 
+// The number, as wide as a sum.
 fn wide(n: u32) -> u64
     ensures { λ r. ⌜ r < 4294967296 ⌝ }
 {
     n as u64
 }
 
+// The byte, as wide as a sum.
 fn wide_byte(b: u8) -> u64
     ensures { λ r. ⌜ r < 4294967296 ⌝ }
 {
     b as u64
 }
 
+// The number as a sum takes it, modulo 10^18.
 fn cut(n: u64) -> u64
     ensures { λ r. ⌜ r < 1000000000000000000 ⌝ }
 {
     n % 1000000000000000000
 }
 
+// The sum of a list of numbers of four bytes.
 pub fn numbers(list: &[u32]) -> u64 {
     let mut sum = Sum { total: 0, tail: 0 };
     let mut k = list.len();
@@ -48,6 +52,7 @@ pub fn numbers(list: &[u32]) -> u64 {
     sum.total
 }
 
+// The sum of a list of bytes.
 pub fn bytes(list: &[u8]) -> u64 {
     let mut sum = Sum { total: 0, tail: 0 };
     let mut k = list.len();
@@ -58,6 +63,7 @@ pub fn bytes(list: &[u8]) -> u64 {
     sum.total
 }
 
+// The sum of a list of numbers of eight bytes.
 pub fn longs(list: &[u64]) -> u64 {
     let mut sum = Sum { total: 0, tail: 0 };
     let mut k = list.len();

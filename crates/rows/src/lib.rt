@@ -21,8 +21,8 @@ use rail::Train;
 
 // The excess at each station of a run, and what keep costs there but for the cell after it.
 struct Keeping {
-    pub excess: [u64; 64],
-    pub keep: [u64; 64],
+    excess: [u64; 64],
+    keep: [u64; 64],
 }
 
 // These along the run that begins with `first` on time.

@@ -62,9 +62,9 @@ fn prefer(excess: u64, keep: u64, go: u64) -> u8
 // What one station decides: the byte, the train that the run then begins with, and how late its
 // train arrives.
 struct Step {
-    pub decision: u8,
-    pub first: Train,
-    pub late: u64,
+    decision: u8,
+    first: Train,
+    late: u64,
 }
 
 // The step of `train`, on the run from `first`, its feeder having arrived so late.
