@@ -1,18 +1,29 @@
 -- The columns of a sheet hold its numbers, and their fields lie within the sheet.
 -- Assumes nothing.
-use mathlib.Core.Path.{refl}
+use mathlib.Core.Path.{_≡_, refl, ap, _∙_}
 use mathlib.Core.List.{List}
 use Prim.Native.Nat.{ℕ, _+_, _≤_}
 use native.Mathlib.Omega.{arith}
+use lib.ListN.{length}
 use Rattle.lists.proofs.Run.{padded-length, padded-nth}
 use Rattle.sheet.specs.Format.{trainsOf, periodOf, departureOf, drivingOf, delayOf, passengersOf, passengerColumn}
 use Rattle.sheet.specs.Format.{pairsOf}
 use Rattle.sheet.specs.Numbers.{numbersOf, numbersIn}
 use Rattle.sheet.specs.Checks.{Room}
-use Rattle.sheet.specs.Accepted.{SameNumbers}
+use Rattle.sheet.specs.Accepted.{Lengths, SameNumbers}
 use Rattle.sheet.proofs.Lengths.{layout, bytes-bits, pairs-le, train-within, passengers-within}
 use Rattle.decoder.specs.declared.Columns.{Columns}
-use Rattle.decoder.specs.Decode.{ColumnRoom, Head, listsOf, ColumnsOf}
+use Rattle.decoder.specs.Decode.{ColumnRoom, Head, listsOf, columnsOf}
+
+-- the columns of a sheet have their lengths, whatever the sheet
+pub columns-lengths : (s : List ℕ) (c : Columns) → c ≡ columnsOf s → Lengths 64 2080 (listsOf c)
+columns-lengths s c e =
+    record {
+      departures = ap (λ (x : Columns). length (x .departures)) e ∙ padded-length 64 _ _;
+      driving = ap (λ (x : Columns). length (x .driving)) e ∙ padded-length 64 _ _;
+      delays = ap (λ (x : Columns). length (x .delays)) e ∙ padded-length 64 _ _;
+      passengers = ap (λ (x : Columns). length (x .passengers)) e ∙ padded-length 2080 _ _;
+    }
 
 module _ (s : List ℕ) (m : ℕ) (h : Head s m) where
   -- the column of the trains whose first field is the w bits from bit a
@@ -34,19 +45,20 @@ module _ (s : List ℕ) (m : ℕ) (h : Head s m) where
         within = λ k c. passengers-within s m k (omega arith) (h .most) c;
       }
 
-  module _ (c : Columns) (held : ColumnsOf s c) where
+  module _ (c : Columns) (held : c ≡ columnsOf s) where
     pub columns-room : Room m (listsOf c)
     columns-room =
         let n = h .most in
+        let long = columns-lengths s c held in
         record {
           trains = record {
             least = h .least;
             most = n;
-            departures = rw (held .departures, padded-length 64 _ _) n;
-            driving = rw (held .driving, padded-length 64 _ _) n;
-            delays = rw (held .delays, padded-length 64 _ _) n;
+            departures = rw (long .departures) n;
+            driving = rw (long .driving) n;
+            delays = rw (long .delays) n;
           };
-          passengers = rw (held .passengers, padded-length 2080 _ _) (pairs-le m n);
+          passengers = rw (long .passengers) (pairs-le m n);
         }
 
     pub columns-same : SameNumbers
@@ -57,8 +69,8 @@ module _ (s : List ℕ) (m : ℕ) (h : Head s m) where
         record {
           trains = h .trains;
           period = refl;
-          departure = padded-nth _ 64 _ (departureOf s) (held .departures) n;
-          driving = padded-nth _ 64 _ (drivingOf s) (held .driving) n;
-          delay = padded-nth _ 64 _ (delayOf s) (held .delays) n;
-          passengers = padded-nth _ 2080 _ (passengersOf s) (held .passengers) (pairs-le _ n);
+          departure = padded-nth _ 64 _ (departureOf s) (ap (λ (x : Columns). x .departures) held) n;
+          driving = padded-nth _ 64 _ (drivingOf s) (ap (λ (x : Columns). x .driving) held) n;
+          delay = padded-nth _ 64 _ (delayOf s) (ap (λ (x : Columns). x .delays) held) n;
+          passengers = padded-nth _ 2080 _ (passengersOf s) (ap (λ (x : Columns). x .passengers) held) (pairs-le _ n);
         }

@@ -10,50 +10,29 @@ use Rattle.rail.proofs.Checks.{if-fine, if-refused}
 use Rattle.sheet.specs.Format.{trainsOf, periodOf}
 use Rattle.decoder.specs.declared.Reading.the-variants.{Accepted, Refused as ReadRefused}
 use Rattle.decoder.specs.declared.Decoded.{Decoded}
-use Rattle.decoder.specs.Decode.{ColumnsOf, NoColumns, Decoding}
+use Rattle.decoder.specs.Decode.{columnsOf, noColumns, Decoding}
 use Rattle.decoder.proofs.Answers.{reading-refused, reading-accepted}
 
 module _ (v : Verdict) (s : List ℕ) (d : Decoded) where
-  pub decoding-refused : {r : Refusal} → Refused r ≡ v → d .answer ≡ ReadRefused r → NoColumns (d .columns)
+  pub decoding-refused : {r : Refusal} → Refused r ≡ v → d .answer ≡ ReadRefused r → d .columns ≡ noColumns
       → Decoding v s d
-  decoding-refused e p h =
-      record {
-        answer = p ∙ reading-refused _ _ _ e;
-        departures = h .departures ∙ if-refused _ _ _ e;
-        driving = h .driving ∙ if-refused _ _ _ e;
-        delays = h .delays ∙ if-refused _ _ _ e;
-        passengers = h .passengers ∙ if-refused _ _ _ e;
-      }
+  decoding-refused e p h = record { answer = p ∙ reading-refused _ _ _ e; columns = h ∙ if-refused _ _ _ e }
 
   pub decoding-accepted : {m T : ℕ} → Fine ≡ v → d .answer ≡ Accepted m T → m ≡ trainsOf s → T ≡ periodOf s
-      → ColumnsOf s (d .columns) → Decoding v s d
+      → d .columns ≡ columnsOf s → Decoding v s d
   decoding-accepted e p m T h =
       record {
         answer = p ∙ reading-accepted _ e m T;
-        departures = h .departures ∙ if-fine _ _ _ e;
-        driving = h .driving ∙ if-fine _ _ _ e;
-        delays = h .delays ∙ if-fine _ _ _ e;
-        passengers = h .passengers ∙ if-fine _ _ _ e;
+        columns = h ∙ if-fine _ _ _ e;
       }
 
-  pub decoding-columns : v ≡ Fine → Decoding v s d → ColumnsOf s (d .columns)
-  decoding-columns e h =
-      record {
-        departures = h .departures ∙ sym (if-fine _ _ _ (sym e));
-        driving = h .driving ∙ sym (if-fine _ _ _ (sym e));
-        delays = h .delays ∙ sym (if-fine _ _ _ (sym e));
-        passengers = h .passengers ∙ sym (if-fine _ _ _ (sym e));
-      }
+  pub decoding-columns : v ≡ Fine → Decoding v s d → d .columns ≡ columnsOf s
+  decoding-columns e h = h .columns ∙ sym (if-fine _ _ _ (sym e))
 
 -- two results that keep decode's promise are equal
 pub decode-one : (v : Verdict) (s : List ℕ) (d d′ : Decoded) → Decoding v s d → Decoding v s d′ → d ≡ d′
 decode-one v s d d′ g h =
     λ i. record {
       answer = (g .answer ∙ sym (h .answer)) i;
-      columns = record {
-        departures = (g .departures ∙ sym (h .departures)) i;
-        driving = (g .driving ∙ sym (h .driving)) i;
-        delays = (g .delays ∙ sym (h .delays)) i;
-        passengers = (g .passengers ∙ sym (h .passengers)) i;
-      };
+      columns = (g .columns ∙ sym (h .columns)) i;
     }

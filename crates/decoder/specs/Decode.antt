@@ -1,7 +1,7 @@
 -- What taking a sheet apart needs and leaves. Document 01, "Four operations", read: fields first, the rest 0.
 --   ColumnRoom, Head               what reading a column, and what stands behind the head, needs
 --   listsOf c                      the columns as four lists
---   ColumnsOf s c, NoColumns c     the columns are the sheet's, or all 0
+--   columnsOf s, noColumns         the sheet's columns, and columns of zeros
 --   Decoding v s d                 the sheet s taken apart under the verdict v
 -- Assumes nothing.
 use Prim.Native.Nat.{ℕ, _+_, _*_, _≤_, _<_}
@@ -34,25 +34,27 @@ pub record Head (s : List ℕ) (m : ℕ) : Type 0 where
 abbrev pub listsOf : Columns → Lists
 listsOf c = lists (c .departures) (c .driving) (c .delays) (c .passengers)
 
--- the columns are those of the sheet, fields first, the rest 0
-pub record ColumnsOf (s : List ℕ) (c : Columns) : Type 0 where
-  pub departures : c .departures ≡ padded 64 (trainsOf s) (departureOf s)
-  pub driving : c .driving ≡ padded 64 (trainsOf s) (drivingOf s)
-  pub delays : c .delays ≡ padded 64 (trainsOf s) (delayOf s)
-  pub passengers : c .passengers ≡ padded 2080 (pairsOf (trainsOf s)) (passengersOf s)
+-- the columns of the sheet, fields first, the rest 0
+abbrev pub columnsOf : List ℕ → Columns
+columnsOf s =
+    record {
+      departures = padded 64 (trainsOf s) (departureOf s);
+      driving = padded 64 (trainsOf s) (drivingOf s);
+      delays = padded 64 (trainsOf s) (delayOf s);
+      passengers = padded 2080 (pairsOf (trainsOf s)) (passengersOf s);
+    }
 
--- every number of the columns is 0
-pub record NoColumns (c : Columns) : Type 0 where
-  pub departures : c .departures ≡ replicate 64 0
-  pub driving : c .driving ≡ replicate 64 0
-  pub delays : c .delays ≡ replicate 64 0
-  pub passengers : c .passengers ≡ replicate 2080 0
+-- columns of zeros
+abbrev pub noColumns : Columns
+noColumns =
+    record {
+      departures = replicate 64 0;
+      driving = replicate 64 0;
+      delays = replicate 64 0;
+      passengers = replicate 2080 0;
+    }
 
 -- the answer by the verdict v, and the sheet's columns where it is fine, zeros where it refuses
 pub record Decoding (v : Verdict) (s : List ℕ) (d : Decoded) : Type 0 where
   pub answer : d .answer ≡ readingOf v (trainsOf s) (periodOf s)
-  pub departures : d .columns .departures ≡ ifFine v (padded 64 (trainsOf s) (departureOf s)) (replicate 64 0)
-  pub driving : d .columns .driving ≡ ifFine v (padded 64 (trainsOf s) (drivingOf s)) (replicate 64 0)
-  pub delays : d .columns .delays ≡ ifFine v (padded 64 (trainsOf s) (delayOf s)) (replicate 64 0)
-  pub passengers : d .columns .passengers
-      ≡ ifFine v (padded 2080 (pairsOf (trainsOf s)) (passengersOf s)) (replicate 2080 0)
+  pub columns : d .columns ≡ ifFine v (columnsOf s) noColumns

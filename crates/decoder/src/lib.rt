@@ -9,7 +9,7 @@ ghost use Rattle.sheet.specs.Format.{trainsOf, periodOf, entry};
 ghost use Rattle.sheet.specs.Checks.{headVerdict, fillingVerdict, bodyVerdict, sheetVerdict};
 ghost use Rattle.decoder.specs.Answers.{readNumber, readPlace, readTrains, readPeriod};
 ghost use Rattle.decoder.specs.Answers.{readingOf};
-ghost use Rattle.decoder.specs.Decode.{ColumnRoom, Head, ColumnsOf, NoColumns, Decoding};
+ghost use Rattle.decoder.specs.Decode.{ColumnRoom, Head, columnsOf, noColumns, Decoding};
 use bits::field;
 use rail::Refusal;
 use rail::Verdict;
@@ -149,7 +149,7 @@ fn read_passengers(sheet: &[u8], column: Column, n: usize) -> [u32; 2080]
 // Every field behind the head.
 fn read_columns(sheet: &[u8], m: usize) -> Columns
     requires { ⌜ Head (now sheet) m ⌝ }
-    ensures { λ r. ⌜ ColumnsOf (now (sheet .entry)) r ⌝ }
+    ensures { λ r. ⌜ r ≡ columnsOf (now (sheet .entry)) ⌝ }
 {
     let departures = read_times(sheet, Column::departures(), m);
     let driving = read_times(sheet, Column::driving(), m);
@@ -177,7 +177,7 @@ fn check_filling(sheet: &[u8], m: usize) -> Verdict
 
 // The numbers of the sheet, then its filling bits.
 fn check_body(sheet: &[u8], m: u32, columns: Columns) -> Verdict
-    requires { ⌜ Head (now sheet) m × ColumnsOf (now sheet) columns ⌝ }
+    requires { ⌜ Head (now sheet) m × (columns ≡ columnsOf (now sheet)) ⌝ }
     ensures { λ r. ⌜ r ≡ bodyVerdict (now (sheet .entry)) ⌝ }
 {
     let departures = columns.departures;
@@ -193,7 +193,7 @@ fn check_body(sheet: &[u8], m: u32, columns: Columns) -> Verdict
 
 // A sheet that is refused: no column counts, and all are 0.
 fn refused(refusal: Refusal) -> Decoded
-    ensures { λ r. ⌜ (r .answer ≡ Reading.Refused refusal) × NoColumns (r .columns) ⌝ }
+    ensures { λ r. ⌜ (r .answer ≡ Reading.Refused refusal) × (r .columns ≡ noColumns) ⌝ }
 {
     let columns = Columns {
         departures: [0u32; 64],

@@ -10,7 +10,6 @@ use native.Mathlib.Omega.{arith}
 use lib.ListN.{length, replicate}
 use Rattle.lists.specs.Choice.{if_then_else_}
 use Rattle.lists.proofs.Choice.{if-no}
-use Rattle.lists.proofs.Run.{padded-length}
 use Rattle.rail.specs.declared.Refusal.{Refusal}
 use Rattle.rail.specs.declared.Verdict.the-variants.{Fine}
 use Rattle.rail.specs.Refusal.{blanksOf}
@@ -26,10 +25,10 @@ use Rattle.sheet.proofs.Facts.{accepted-of-fine}
 use Rattle.sheet.proofs.Meaning.{in-range-same}
 use Rattle.decoder.specs.declared.Reading.the-variants.{Accepted as ReadAccepted}
 use Rattle.decoder.specs.declared.Decoded.{Decoded}
-use Rattle.decoder.specs.Decode.{listsOf, ColumnsOf, Decoding}
+use Rattle.decoder.specs.Decode.{listsOf, columnsOf, Decoding}
 use Rattle.decoder.proofs.Answers.{accepted-fine}
 use Rattle.decoder.proofs.Outcome.{decoding-columns}
-use Rattle.decoder.proofs.Held.{columns-same}
+use Rattle.decoder.proofs.Held.{columns-lengths, columns-same}
 use Rattle.cells.specs.Place.{tableOf}
 use Rattle.settle.specs.LineOf.{lineOf}
 use Rattle.planner.specs.declared.Answer.{Answer}
@@ -66,7 +65,7 @@ module _ (s : List ℕ) (d : Decoded) (m T : ℕ) (told : Decoding (sheetVerdict
   accepted : AcceptedSheet s
   accepted = accepted-of-fine s taken-fine
 
-  columns : ColumnsOf s (d .columns)
+  columns : d .columns ≡ columnsOf s
   columns = decoding-columns _ s d taken-fine told
 
   numbers-same : SameNumbers (numbersIn m T (listsOf (d .columns))) (numbersOf s)
@@ -85,12 +84,7 @@ module _ (s : List ℕ) (d : Decoded) (m T : ℕ) (told : Decoding (sheetVerdict
   pub taken-sound : Sound m T (listsOf (d .columns))
   taken-sound =
       record {
-        lengths = record {
-          departures = ap length (columns .departures) ∙ padded-length 64 _ _;
-          driving = ap length (columns .driving) ∙ padded-length 64 _ _;
-          delays = ap length (columns .delays) ∙ padded-length 64 _ _;
-          passengers = ap length (columns .passengers) ∙ padded-length 2080 _ _;
-        };
+        lengths = columns-lengths s _ columns;
         range = in-range-same _ _ numbers-same (accepted .numbers);
       }
 

@@ -2,13 +2,11 @@
 -- Assumes nothing.
 use mathlib.Core.Path.{_≡_, refl, sym, ap, _∙_}
 use mathlib.Core.List.{List}
-use lib.ListN.{length}
 use Prim.Native.Nat.{ℕ}
 use Rattle.rail.specs.declared.Refusal.{Refusal}
 use Rattle.rail.specs.declared.Verdict.the-variants.{Fine, Refused}
 use Rattle.rail.specs.Verdict.{numberIn, placeIn}
 use Rattle.rail.proofs.Checks.{if-fine, if-refused}
-use Rattle.lists.proofs.Run.{padded-length}
 use Rattle.sheet.specs.Format.{trainsOf, periodOf}
 use Rattle.sheet.specs.Numbers.{Lists}
 use Rattle.sheet.specs.Accepted.{Lengths}
@@ -17,9 +15,10 @@ use Rattle.decoder.specs.declared.Reading.the-variants.{Accepted, Refused as Re
 use Rattle.decoder.specs.declared.Columns.{Columns}
 use Rattle.decoder.specs.Answers.{readNumber, readPlace, readTrains, readPeriod}
 use Rattle.reader.specs.Read.{readVerdict, Read}
-use Rattle.decoder.specs.Decode.{ColumnsOf}
+use Rattle.decoder.specs.Decode.{columnsOf}
 use Rattle.reader.specs.Stored.{Fits, Stored}
 use Rattle.decoder.proofs.Answers.{reading-refused, reading-accepted}
+use Rattle.decoder.proofs.Held.{columns-lengths}
 
 module _ (s : List ℕ) (before : Lists) where
   -- a refusal changes nothing
@@ -40,7 +39,7 @@ module _ (s : List ℕ) (before : Lists) where
 
   -- an accepted sheet is stored
   pub read-accepted : {a : Reading} (after : Lists) (c : Columns) → a ≡ Accepted (trainsOf s) (periodOf s)
-      → Fine ≡ readVerdict s before → ColumnsOf s c → Stored c after → Read s before after a
+      → Fine ≡ readVerdict s before → c ≡ columnsOf s → Stored c after → Read s before after a
   read-accepted after c p e h k =
       record {
         answer = p ∙ reading-accepted _ e refl refl;
@@ -48,20 +47,21 @@ module _ (s : List ℕ) (before : Lists) where
         place = ap readPlace p ∙ ap placeIn e;
         trains = ap readTrains p ∙ if-fine _ _ _ e;
         period = ap readPeriod p ∙ if-fine _ _ _ e;
-        departures = k .departures ∙ h .departures ∙ if-fine _ _ _ e;
-        driving = k .driving ∙ h .driving ∙ if-fine _ _ _ e;
-        delays = k .delays ∙ h .delays ∙ if-fine _ _ _ e;
-        passengers = k .passengers ∙ h .passengers ∙ if-fine _ _ _ e;
+        departures = k .departures ∙ ap (λ (x : Columns). x .departures) h ∙ if-fine _ _ _ e;
+        driving = k .driving ∙ ap (λ (x : Columns). x .driving) h ∙ if-fine _ _ _ e;
+        delays = k .delays ∙ ap (λ (x : Columns). x .delays) h ∙ if-fine _ _ _ e;
+        passengers = k .passengers ∙ ap (λ (x : Columns). x .passengers) h ∙ if-fine _ _ _ e;
       }
 
 -- lists of the right lengths have room for the columns
-pub columns-fit : (s : List ℕ) (L : Lists) (c : Columns) → Lengths 64 2080 L → ColumnsOf s c → Fits c L
-columns-fit s L c l h =
+pub columns-fit : (s : List ℕ) (L : Lists) (c : Columns) → Lengths 64 2080 L → c ≡ columnsOf s → Fits c L
+columns-fit s L c l e =
+    let h = columns-lengths s c e in
     record {
-      departures = ap length (h .departures) ∙ padded-length _ _ _ ∙ sym (l .departures);
-      driving = ap length (h .driving) ∙ padded-length _ _ _ ∙ sym (l .driving);
-      delays = ap length (h .delays) ∙ padded-length _ _ _ ∙ sym (l .delays);
-      passengers = ap length (h .passengers) ∙ padded-length _ _ _ ∙ sym (l .passengers);
+      departures = h .departures ∙ sym (l .departures);
+      driving = h .driving ∙ sym (l .driving);
+      delays = h .delays ∙ sym (l .delays);
+      passengers = h .passengers ∙ sym (l .passengers);
     }
 
 -- two outcomes that keep read's promise are equal

@@ -58,14 +58,14 @@ returns c =
     let driving = delays .before .before in
     let departures = driving .before .before in
     let head = departures .before .before .before .pre in
-    record {
+    λ i. record {
       departures = column-is _ _ 64 (departures .read-times .ensures) (head .trains)
-          (departures .before .departures .ensures);
-      driving = column-is _ _ 64 (driving .read-times2 .ensures) (head .trains) (driving .before .driving .ensures);
-      delays = column-is _ _ 64 (delays .read-times3 .ensures) (head .trains) (delays .before .delays .ensures);
+          (departures .before .departures .ensures) i;
+      driving = column-is _ _ 64 (driving .read-times2 .ensures) (head .trains) (driving .before .driving .ensures) i;
+      delays = column-is _ _ 64 (delays .read-times3 .ensures) (head .trains) (delays .before .delays .ensures) i;
       passengers =
           column-is _ _ 2080 (c .read-passengers .ensures) (c .before .pairs-of .ensures ∙ ap pairsOf (head .trains))
-          (passengers .passengers .ensures ∙ ap passengerColumn (head .trains));
+          (passengers .passengers .ensures ∙ ap passengerColumn (head .trains)) i;
     }
 
 pub read-columns-spec : {M : Type 1} → statement M
