@@ -91,44 +91,45 @@ module _ (r : Refusal) (a b : ℕ) where
     | no n ↦ refused-not-fine (refused-other n ∙ e)
   ]
 
--- ---- a loop that looks for the first refusal of the checks 1 to m
+-- ---- a loop that looks for the first refusal of n checks, from check a on
 
 -- the loop stands before check i: what the checks from i on will say is what all of them say
-pub record Searching (f : ℕ → Verdict) (m i : ℕ) : Type 0 where
-  pub least : 1 ≤ i
-  pub most : i ≤ m + 1
-  pub rest : firstOf f i (m + 1 - i) ≡ firstOf f 1 m
+pub record Searching (f : ℕ → Verdict) (a n i : ℕ) : Type 0 where
+  pub least : a ≤ i
+  pub most : i ≤ a + n
+  pub rest : firstOf f i (a + n - i) ≡ firstOf f a n
 
-module _ (f : ℕ → Verdict) (m : ℕ) where
-  pub search-first : Searching f m 1
+module _ (f : ℕ → Verdict) (a n : ℕ) where
+  pub search-first : Searching f a n a
   search-first =
-      let e : m + 1 - 1 ≡ m = omega arith in
+      let e : a + n - a ≡ n = omega arith in
       record { least = omega arith; most = omega arith; rest = rw e refl }
 
-  first-next : (i : ℕ) → 1 ≤ i → i ≤ m → firstOf f i (m + 1 - i) ≡ f i andThen firstOf f (i + 1) (m + 1 - (i + 1))
+  first-next : (i : ℕ) → i < a + n → firstOf f i (a + n - i) ≡ f i andThen firstOf f (i + 1) (a + n - (i + 1))
   unfolding firstOf
-  first-next i a b =
-      let e : m + 1 - i - 1 ≡ m + 1 - (i + 1) = omega arith in
-      run-next _andThen_ Fine f i (m + 1 - i) (omega arith) ∙ rw e refl
+  first-next i l =
+      let e : a + n - i - 1 ≡ a + n - (i + 1) = omega arith in
+      run-next _andThen_ Fine f i (a + n - i) (omega arith) ∙ rw e refl
 
   -- check i passed
-  pub search-next : {i : ℕ} {v : Verdict} → Searching f m i → i ≤ m → v ≡ Fine → v ≡ f i → Searching f m (i + 1)
+  pub search-next : {i : ℕ} {v : Verdict} → Searching f a n i → i < a + n → v ≡ Fine → v ≡ f i
+      → Searching f a n (i + 1)
   search-next {i} h l p q =
       record {
-        least = omega arith;
+        least = omega (arith, h .least);
         most = omega arith;
-        rest = then-pass (f i) _ _ (sym q ∙ p) refl ∙ sym (first-next i (h .least) l) ∙ h .rest;
+        rest = then-pass (f i) _ _ (sym q ∙ p) refl ∙ sym (first-next i l) ∙ h .rest;
       }
 
   -- check i refused: that is the answer
-  pub search-stop : {i : ℕ} {v : Verdict} {r : Refusal} → Searching f m i → i ≤ m → v ≡ Refused r → v ≡ f i
-      → v ≡ firstOf f 1 m
-  search-stop {i} h l p q = then-stop (f i) _ p q ∙ sym (first-next i (h .least) l) ∙ h .rest
+  pub search-stop : {i : ℕ} {v : Verdict} {r : Refusal} → Searching f a n i → i < a + n → v ≡ Refused r → v ≡ f i
+      → v ≡ firstOf f a n
+  search-stop {i} h l p q = then-stop (f i) _ p q ∙ sym (first-next i l) ∙ h .rest
 
   -- all passed
-  pub search-end : {i : ℕ} → Searching f m i → m < i → Fine ≡ firstOf f 1 m
+  pub search-end : {i : ℕ} → Searching f a n i → a + n ≤ i → Fine ≡ firstOf f a n
   unfolding firstOf
-  search-end {i} h l = sym (run-none _andThen_ Fine f i (m + 1 - i) (omega arith)) ∙ h .rest
+  search-end {i} h l = sym (run-none _andThen_ Fine f i (a + n - i) (omega arith)) ∙ h .rest
 
 -- every check of a run that is fine is fine
 pub first-fine : (f : ℕ → Verdict) (i n : ℕ) → firstOf f i n ≡ Fine → (j : ℕ) → i ≤ j → j < i + n → f j ≡ Fine

@@ -12,13 +12,13 @@ use Rattle.sheet.proofs.checks.check_passengers.Statement.{statement}
 use Rattle.sheet.proofs.checks.check_passengers.Tie as tie
 
 abbrev Inv-loop : tie.InvT-loop
-Inv-loop n passengers f₀ f = Searching (passengersVerdict (nth passengers)) n f
+Inv-loop n passengers f₀ f = Searching (passengersVerdict (nth passengers)) 1 n f
 
 abbrev μ-loop : tie.MeasureT-loop
 μ-loop n passengers f₀ f = n + 1 - f
 
 loop-holds : tie.Need-loop-holds Inv-loop μ-loop
-loop-holds c = search-first _ _
+loop-holds c = search-first _ _ _
 
 sub-if1 : tie.Need-sub-if1 Inv-loop μ-loop
 sub-if1 c = search needs
@@ -34,7 +34,7 @@ cast-t9 c = search needs
 
 returns : tie.Need-returns Inv-loop μ-loop
 unfolding passengersVerdict
-returns c = search-stop _ _ (c .before .before .before .loop .inv) (omega arith) refl (hit _ _ _ _ (omega arith))
+returns c = search-stop _ _ _ (c .before .before .before .loop .inv) (omega arith) refl (hit _ _ _ _ (omega arith))
 
 add-f : tie.Need-add-f Inv-loop μ-loop
 add-f c = search needs
@@ -45,10 +45,10 @@ loop-less c = search needs
 loop-again : tie.Need-loop-again Inv-loop μ-loop
 unfolding passengersVerdict
 loop-again c =
-    search-next _ _ (c .before .before .before .loop .inv) (omega arith) refl (miss _ _ _ _ _ (omega arith) refl)
+    search-next _ _ _ (c .before .before .before .loop .inv) (omega arith) refl (miss _ _ _ _ _ (omega arith) refl)
 
 returns-2 : tie.Need-returns-2 Inv-loop μ-loop
-returns-2 c = search-end _ _ (c .before .loop .inv) (omega arith)
+returns-2 c = search-end _ _ _ (c .before .loop .inv) (omega arith)
 
 pub check-passengers-spec : {M : Type 1} → statement M
 check-passengers-spec =

@@ -11,13 +11,13 @@ use Rattle.sheet.proofs.checks.check_trains.Statement.{statement}
 use Rattle.sheet.proofs.checks.check_trains.Tie as tie
 
 abbrev Inv-loop : tie.InvT-loop
-Inv-loop m departures driving delays i₀ i = Searching (trainVerdict (timesIn departures driving delays)) m i
+Inv-loop m departures driving delays i₀ i = Searching (trainVerdict (timesIn departures driving delays)) 1 m i
 
 abbrev μ-loop : tie.MeasureT-loop
 μ-loop m departures driving delays i₀ i = m + 1 - i
 
 loop-holds : tie.Need-loop-holds Inv-loop μ-loop
-loop-holds c = search-first _ _
+loop-holds c = search-first _ _ _
 
 check-train-requires : tie.Need-check-train-requires Inv-loop μ-loop
 check-train-requires c κs = search needs
@@ -28,7 +28,7 @@ enum-told c = search needs
 returns : tie.Need-returns Inv-loop μ-loop
 returns c =
     let turn = c .before .before in
-    search-stop _ _ (turn .before .before .loop .inv) (omega arith) (c .enum-told .given .1)
+    search-stop _ _ _ (turn .before .before .loop .inv) (omega arith) (c .enum-told .given .1)
     (turn .check-train .ensures)
 
 enum-told-2 : tie.Need-enum-told-2 Inv-loop μ-loop
@@ -43,11 +43,11 @@ loop-less c = search needs
 loop-again : tie.Need-loop-again Inv-loop μ-loop
 loop-again c =
     let turn = c .before .before in
-    search-next _ _ (turn .before .before .loop .inv) (omega arith) (c .enum-told2 .given .1)
+    search-next _ _ _ (turn .before .before .loop .inv) (omega arith) (c .enum-told2 .given .1)
     (turn .check-train .ensures)
 
 returns-2 : tie.Need-returns-2 Inv-loop μ-loop
-returns-2 c = search-end _ _ (c .before .loop .inv) (omega arith)
+returns-2 c = search-end _ _ _ (c .before .loop .inv) (omega arith)
 
 pub check-trains-spec : {M : Type 1} → statement M
 check-trains-spec =
