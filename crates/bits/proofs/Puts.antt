@@ -1,17 +1,20 @@
--- Laws of a field that is put: fields apart from it stay, one bit, one bit more in front, and the one result.
+-- Laws of a field that is put: fields apart from it stay, one bit, one bit more in front; and for a number that fits
+-- there is a result, and only one.
 -- Assumes nothing.
 use mathlib.Core.Path.{_≡_, refl, sym, ap₂, subst, _∙_}
 use mathlib.Core.List.{List}
 use mathlib.Core.Logic.{inl, inr, ⊎-elim}
-use Prim.Native.Nat.{ℕ, _+_, _-_, _*_, _/_, _%_, _^_, _≤_, _<_}
+use Prim.Native.Nat.{ℕ, zero, suc, _+_, _-_, _*_, _/_, _%_, _^_, _≤_, _<_}
+use native.Mathlib.Nat.{mod-lt, div-add-mod'}
 use native.Mathlib.Decide.{ℕ-discrete}
 use native.Mathlib.Omega.{arith}
+use lib.Pow.{pow-pos, shr-lt}
 use lib.ListN.{length, getD, set, length-set}
 use lib.Seq.{getD-set-same, getD-set-other}
 use Rattle.lists.proofs.Order.{lt-or-ge}
 use Rattle.bits.specs.Field.{bitAt, fieldOf, Apart, Put, BitPut, Bytes}
 use Rattle.bits.proofs.Fields.{field-none, field-bit, field-split, field-same, same-bits}
-use Rattle.bits.proofs.Bytes.{bytes-ext}
+use Rattle.bits.proofs.Bytes.{machine, bytes-ext}
 
 -- every field that lies apart from the one put is as it was
 pub put-apart : {s t : List ℕ} {at w v : ℕ} → Put s at w v t → (a u : ℕ) → Apart a u at w
@@ -72,3 +75,39 @@ put-unique {s} {t} {u} {at} {w} g h bt bu =
     (λ (q : at + w ≤ i). away (inr q))
     (lt-or-ge i (at + w)))
     (lt-or-ge i at))
+
+-- ---- a number that fits its field can be put
+
+bytes-set : (s : List ℕ) (q y : ℕ) → Bytes s → q < length s → y < 256 → Bytes (set s q y)
+bytes-set s q y bytes room small i = elim (ℕ-discrete i q) [
+  | yes e ↦ rw (e, getD-set-same s q y 0 room) small
+  | no n ↦ rw (getD-set-other s q i y 0 n) (bytes i)
+]
+
+pub record Puttable (s : List ℕ) (at w v : ℕ) : Type 0 where
+  pub result : List ℕ
+  pub bytes : Bytes result
+  pub put : Put s at w v result
+
+-- one bit more in front
+puttable-more : (s : List ℕ) (at k b x : ℕ) → b < 2 → at < 8 * length s → Puttable s (at + 1) k x
+    → Puttable s at (1 + k) (b * 2 ^ k + x)
+puttable-more s at k b x bit room low =
+    let t = low .result in
+    let in-sheet : at < 8 * length t = omega (arith, low .put .long) in
+    let byte = machine (getD t (at / 8) 0) (7 - at % 8) b bit (low .bytes (at / 8)) (omega arith) in
+    record {
+      result = set t (at / 8) _;
+      bytes = bytes-set t (at / 8) _ (low .bytes) (omega arith) (byte .small);
+      put = put-more at (low .put) (put-one t at b _ in-sheet (byte .put));
+    }
+
+pub puttable : (s : List ℕ) (at w v : ℕ) → Bytes s → at + w ≤ 8 * length s → v < 2 ^ w → Puttable s at w v
+puttable s at zero v bytes room fits =
+    let none : 0 ≡ v = omega arith in
+    record { result = s; bytes = bytes; put = subst (λ (x : ℕ). Put s at 0 x s) none (put-none s at) }
+puttable s at (suc k) v bytes room fits =
+    let one : suc k ≡ 1 + k = omega arith in
+    let bit = shr-lt 1 k (subst (λ (w : ℕ). v < 2 ^ w) one fits) in
+    let low = puttable s (at + 1) k (v % 2 ^ k) bytes (omega arith) (mod-lt v (pow-pos k)) in
+    rw one (subst (Puttable s at (1 + k)) (div-add-mod' v (2 ^ k)) (puttable-more s at k _ _ bit (omega arith) low))

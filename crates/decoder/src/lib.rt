@@ -192,7 +192,7 @@ fn check_body(sheet: &[u8], m: u32, columns: Columns) -> Verdict
 }
 
 // A sheet that is refused: no column counts, and all are 0.
-fn refused(refusal: Refusal) -> Decoded
+pub fn refused(refusal: Refusal) -> Decoded
     ensures { λ r. ⌜ (r .answer ≡ Reading.Refused refusal) × (r .columns ≡ noColumns) ⌝ }
 {
     let columns = Columns {

@@ -104,6 +104,19 @@ lines-alike-refl k L =
       passengers = λ i j a b c. refl;
     }
 
+pub lines-alike-trans : (k : ℕ) (L M N : Line) → LinesAlike k L M → LinesAlike k M N → LinesAlike k L N
+lines-alike-trans k L M N x y =
+    let most : (n : ℕ) → n ≤ L .trains → n ≤ M .trains = λ n b. omega (arith, x .trains) in
+    record {
+      trains = x .trains ∙ y .trains;
+      running = record {
+        slack = λ s a b. x .running .slack s a b ∙ y .running .slack s a (most s b);
+        arrive = λ i d a b. x .running .arrive i d a b ∙ y .running .arrive i d a (most i b);
+      };
+      period = λ s a b. x .period s a b ∙ y .period s a (most s b);
+      passengers = λ i j a b c. x .passengers i j a b c ∙ y .passengers i j a b (omega (arith, x .trains));
+    }
+
 -- Arrivals and the total read the trains in use alone: nothing of a line after its last train, no slack or period at
 -- station 1, and a policy at trains 2 to m.
 module _ (L M : Line) (p q : Policy) (lines : LinesAlike 1 L M)

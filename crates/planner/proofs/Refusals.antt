@@ -1,31 +1,48 @@
--- Which refusals the checks of plan can give: those of the buffers are for their length alone, the others are a
--- sheet's.
+-- What the checks of plan and of report tell: the lengths of the buffers come first and are refused for their length
+-- alone; what follows them tells of the sheet and of the report.
 -- Assumes nothing.
 use mathlib.Core.Path.{_≡_, refl, sym, ap, _∙_}
+use mathlib.Core.Bool.{true, false}
 use mathlib.Core.List.{List}
+use mathlib.Core.Logic.{_⊎_, inl, inr}
 use Prim.Native.Nat.{ℕ}
 use Rattle.rail.specs.declared.Refusal.{Refusal}
 use Rattle.rail.specs.declared.Refusal.the-variants.{BufferLength}
+use Rattle.rail.specs.declared.Verdict.{Verdict}
 use Rattle.rail.specs.declared.Verdict.the-variants.{Fine, Refused}
-use Rattle.rail.proofs.Checks.{then-stop, then-pass, then-fine, fine-then, fine-same, is-same}
-use Rattle.rail.proofs.Refusing.{only-fine, only-unless, only-then}
+use Rattle.rail.specs.Refusal.{blanksOf}
+use Rattle.rail.specs.Verdict.{_andThen_}
+use Rattle.rail.proofs.Checks.{fine-or-refused, then-stop, then-pass, then-fine, fine-then, fine-same, is-same}
+use Rattle.rail.proofs.Refusing.{only-fine, only-refused, only-unless, only-then}
+use Rattle.sheet.specs.Format.{trainsOf}
 use Rattle.sheet.specs.Checks.{sheetVerdict}
 use Rattle.sheet.specs.Accepted.{AcceptedSheet}
-use Rattle.sheet.proofs.Facts.{accepted-of-fine}
+use Rattle.sheet.proofs.Facts.{accepted-of-fine, fine-of-accepted}
+use Rattle.sheet.proofs.Refusals.{sheet-refusal-blanks}
+use Rattle.amend.specs.Reported.{reportedVerdict, Reportable}
+use Rattle.amend.proofs.Reportable.{reportable-of-fine, fine-of-reportable, reported-refusal-blanks}
 use Rattle.settle.specs.Buffers.{Buffers, RightLengths}
-use Rattle.planner.specs.Plan.{bufferLengthsVerdict, buffersVerdict, planVerdict}
+use Rattle.planner.specs.Outcome.{bufferLengthsVerdict, buffersVerdict}
+use Rattle.planner.specs.Plan.{planVerdict}
+use Rattle.planner.specs.Report.{reportVerdict}
 
 -- ---- the buffers
 
-pub right-of-fine : (b : Buffers) → buffersVerdict b ≡ Fine → RightLengths b
+pub lengths-of-fine : (cells decisions delays : ℕ) → bufferLengthsVerdict cells decisions delays ≡ Fine
+    → (cells ≡ 4096) × (decisions ≡ 64) × (delays ≡ 64)
 unfolding bufferLengthsVerdict
-right-of-fine b e =
+lengths-of-fine cells decisions delays e =
     let x = then-fine _ _ e in
     let y = then-fine _ _ (x .1) in
     let z = then-fine _ _ (y .1) in
-    record { cells = is-same _ _ _ (x .0); decisions = is-same _ _ _ (y .0); delays = is-same _ _ _ (z .0) }
+    (is-same _ _ _ (x .0), is-same _ _ _ (y .0), is-same _ _ _ (z .0))
 
-pub fine-of-right : (b : Buffers) → RightLengths b → buffersVerdict b ≡ Fine
+pub right-of-fine : (b : Buffers) → buffersVerdict b ≡ Fine → RightLengths b
+right-of-fine b e =
+    let long = lengths-of-fine _ _ _ e in
+    record { cells = long .0; decisions = long .1; delays = long .2 }
+
+fine-of-right : (b : Buffers) → RightLengths b → buffersVerdict b ≡ Fine
 unfolding bufferLengthsVerdict
 fine-of-right b h =
     fine-then (fine-same _ _ _ (h .cells))
@@ -41,22 +58,61 @@ buffers-refusal b =
     (only-then _ _ _ (only-unless _ _ _ _ refl)
     (only-fine _)))
 
--- ---- plan
-
-module _ (s : List ℕ) (b : Buffers) where
-  -- with buffers of the right lengths the sheet decides
-  pub plan-of-sheet : RightLengths b → planVerdict s b ≡ sheetVerdict s
-  unfolding planVerdict
-  plan-of-sheet right = sym (then-pass _ (sheetVerdict s) _ (fine-of-right b right) refl)
+-- the lengths, then the checks w
+module _ (b : Buffers) (w : Verdict) where
+  -- with buffers of the right lengths the checks that follow decide
+  pub checks-right : RightLengths b → buffersVerdict b andThen w ≡ w
+  checks-right right = sym (then-pass _ w _ (fine-of-right b right) refl)
 
   -- with others they are refused for their length
-  pub plan-of-buffers : (r : Refusal) → buffersVerdict b ≡ Refused r → planVerdict s b ≡ Refused BufferLength
-  unfolding planVerdict
-  plan-of-buffers r e =
-      sym (then-stop (buffersVerdict b) (sheetVerdict s) refl (sym e)) ∙ ap Refused (sym (buffers-refusal b r e))
+  pub checks-wrong : (r : Refusal) → buffersVerdict b ≡ Refused r → buffersVerdict b andThen w ≡ Refused BufferLength
+  checks-wrong r e =
+      sym (then-stop (buffersVerdict b) w refl (sym e)) ∙ ap Refused (sym (buffers-refusal b r e))
 
-  pub accepted-of-plan : planVerdict s b ≡ Fine → RightLengths b × AcceptedSheet s
-  unfolding planVerdict
-  accepted-of-plan fine =
-      let both = then-fine _ (sheetVerdict s) fine in
-      (right-of-fine b (both .0), accepted-of-fine s (both .1))
+  pub checks-fine : buffersVerdict b andThen w ≡ Fine → RightLengths b × (w ≡ Fine)
+  checks-fine fine = let both = then-fine _ w fine in (right-of-fine b (both .0), both .1)
+
+  -- the buffers have the right lengths, or the refusal writes nothing
+  pub right-or-unwritten : (r : Refusal) → buffersVerdict b andThen w ≡ Refused r
+      → RightLengths b ⊎ (blanksOf r ≡ false)
+  right-or-unwritten r e = elim (fine-or-refused (buffersVerdict b)) [
+    | inl fine ↦ inl (right-of-fine b fine)
+    | inr (q, wrong) ↦
+        inr (only-refused (λ (x : Refusal). blanksOf x ≡ false) BufferLength refl r (sym (checks-wrong q wrong) ∙ e))
+  ]
+
+-- ---- plan
+
+pub accepted-of-plan : (s : List ℕ) (b : Buffers) → planVerdict s b ≡ Fine → RightLengths b × AcceptedSheet s
+unfolding planVerdict
+accepted-of-plan s b fine =
+    let both = checks-fine b (sheetVerdict s) fine in
+    (both .0, accepted-of-fine s (both .1))
+
+-- ---- report
+
+module _ (s : List ℕ) (i v : ℕ) (cells : List ℕ) where
+  -- what follows the lengths
+  abbrev pub afterLengths : Verdict
+  afterLengths = sheetVerdict s andThen reportedVerdict (trainsOf s) i v cells
+
+  pub reports-of-fine : afterLengths ≡ Fine → AcceptedSheet s × Reportable (trainsOf s) i v cells
+  reports-of-fine e =
+      let both = then-fine (sheetVerdict s) _ e in
+      (accepted-of-fine s (both .0), reportable-of-fine _ i v cells (both .1))
+
+  pub fine-of-reports : AcceptedSheet s → Reportable (trainsOf s) i v cells → afterLengths ≡ Fine
+  fine-of-reports ok h = fine-then (fine-of-accepted s ok) (fine-of-reportable _ i v cells h)
+
+  pub reports-blanks : (r : Refusal) → afterLengths ≡ Refused r → blanksOf r ≡ true
+  reports-blanks =
+      only-then (λ (r : Refusal). blanksOf r ≡ true) (sheetVerdict s) _ (sheet-refusal-blanks s)
+      (reported-refusal-blanks (trainsOf s) i v cells)
+
+pub accepted-of-report : (s : List ℕ) (i v : ℕ) (b : Buffers) → reportVerdict s i v b ≡ Fine
+    → RightLengths b × AcceptedSheet s × Reportable (trainsOf s) i v (b .cells)
+unfolding reportVerdict
+accepted-of-report s i v b fine =
+    let both = checks-fine b (afterLengths s i v (b .cells)) fine in
+    let told = reports-of-fine s i v (b .cells) (both .1) in
+    (both .0, told .0, told .1)

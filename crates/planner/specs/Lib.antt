@@ -1,5 +1,3 @@
+pub mod Outcome
 pub mod Plan
-pub mod Demands
-pub mod Sheets
-pub mod Useless
-pub mod Promises
+pub mod Report

@@ -1,22 +1,28 @@
 // Plan: the policy of least total for a sheet, its delays and its total, or a refusal by number.
-// `plan` has no `requires`: any sheet of bytes and any buffers get an answer.
+// Report: the same after one train's source delay changed, worked from that train down.
+// Neither has a `requires`: any sheet of bytes, any report and any buffers get an answer.
+mod checking;
+
 ghost use mathlib.Core.Path.{_≡_};
 ghost use lib.ListN.{length, replicate};
 ghost use Rattle.lists.specs.Choice.{if_then_else_};
 ghost use Rattle.rail.specs.Refusal.{blanksOf};
 ghost use Rattle.settle.specs.Buffers.{buffers};
-ghost use Rattle.planner.specs.Plan.{answerNumber, answerPlace, answerTotal};
-ghost use Rattle.planner.specs.Plan.{bufferLengthsVerdict, Plan};
+ghost use Rattle.planner.specs.Outcome.{answerNumber, answerPlace, answerTotal};
+ghost use Rattle.planner.specs.Plan.{Plan};
+ghost use Rattle.planner.specs.Report.{Report};
+use crate::checking::check_plan;
+use crate::checking::check_report;
+use amend::put_delay;
+use amend::with_delay;
 use decoder::Reading;
-use decoder::decode;
 use lists::fill_u8;
 use lists::fill_u32;
 use rail::Refusal;
 use rail::Train;
-use rail::Verdict;
 use settle::settle_numbers;
 
-// What plan answers: the total, or why not.
+// What plan and report answer: the total, or why not.
 pub enum Answer {
     Accepted(u64),
     Refused(Refusal),
@@ -54,22 +60,6 @@ impl Answer {
     }
 }
 
-// The lengths of the lent buffers.
-fn check_buffers(cells: usize, decisions: usize, delays: usize) -> Verdict
-    ensures { λ r. ⌜ r ≡ bufferLengthsVerdict cells decisions delays ⌝ }
-{
-    if cells != 4096 {
-        return Verdict::Refused(Refusal::BufferLength);
-    }
-    if decisions != 64 {
-        return Verdict::Refused(Refusal::BufferLength);
-    }
-    if delays != 64 {
-        return Verdict::Refused(Refusal::BufferLength);
-    }
-    Verdict::Fine
-}
-
 // A blanked decision byte: neither keep nor go.
 const BLANK: u8 = 2;
 
@@ -99,22 +89,47 @@ pub fn plan(sheet: &[u8], cells: &mut [u64], decisions: &mut [u8], delays: &mut 
         (buffers (now (cells .exit)) (now (decisions .exit)) (now (delays .exit)))
         r ⌝ }
 {
-    let lengths = check_buffers(cells.len(), decisions.len(), delays.len());
-    if let Verdict::Refused(refusal) = lengths {
-        return refuse(refusal, decisions, delays);
-    }
-    let decoded = decode(sheet);
-    let answer = decoded.answer;
+    let checked = check_plan(sheet, cells.len(), decisions.len(), delays.len());
+    let answer = checked.answer;
     match answer {
         Reading::Refused(refusal) => refuse(refusal, decisions, delays),
         Reading::Accepted(m, period) => Answer::Accepted(settle_numbers(
             m,
             period,
-            decoded.columns,
+            checked.columns,
             Train(m),
             cells,
             decisions,
             delays,
         )),
+    }
+}
+
+// Takes a new source delay of one train: into the sheet, and into the cells of that train and of
+// those before it. Decisions, delays and the answer are then those of the sheet as it stands. A
+// refusal leaves sheet and cells as they were, and blanks as in plan.
+pub fn report(
+    sheet: &mut [u8],
+    train: Train,
+    delay: u32,
+    cells: &mut [u64],
+    decisions: &mut [u8],
+    delays: &mut [u32],
+) -> Answer
+    ensures { λ r. ⌜ Report (now (sheet .entry)) (train .0) delay
+        (buffers (now (cells .entry)) (now (decisions .entry)) (now (delays .entry)))
+        (now (sheet .exit))
+        (buffers (now (cells .exit)) (now (decisions .exit)) (now (delays .exit)))
+        r ⌝ }
+{
+    let checked = check_report(sheet, train, delay, cells, decisions.len(), delays.len());
+    let answer = checked.answer;
+    match answer {
+        Reading::Refused(refusal) => refuse(refusal, decisions, delays),
+        Reading::Accepted(m, period) => {
+            put_delay(sheet, train, delay);
+            let columns = with_delay(checked.columns, train, delay);
+            Answer::Accepted(settle_numbers(m, period, columns, train, cells, decisions, delays))
+        }
     }
 }

@@ -42,6 +42,17 @@ unfolding _andThen_
 then-fine Fine y e = (refl, e)
 then-fine (Refused r) y e = refused-not-fine e
 
+-- y finds nothing, so x decides
+pub then-nothing : (x y : Verdict) → y ≡ Fine → x ≡ x andThen y
+unfolding _andThen_
+then-nothing Fine y e = sym e
+then-nothing (Refused r) y e = refl
+
+pub then-assoc : (x y z : Verdict) → (x andThen y) andThen z ≡ x andThen y andThen z
+unfolding _andThen_
+then-assoc Fine y z = refl
+then-assoc (Refused r) y z = refl
+
 pub fine-then : {x y : Verdict} → x ≡ Fine → y ≡ Fine → x andThen y ≡ Fine
 fine-then {x} {y} p q = sym (then-pass x y Fine p (sym q))
 

@@ -1,15 +1,17 @@
--- The line of a sheet's numbers: numbers in range give a line in range, and the same numbers give lines alike, whatever
--- the functions say past the last train and the last field.
+-- The line of a sheet's numbers: numbers in range give a line in range, and the same numbers from a train on give lines
+-- alike from there, whatever the functions say past the last train and the last field.
 -- Assumes nothing.
 use mathlib.Core.Path.{_≡_, ap, sym, subst, _∙_}
 use Prim.Native.Nat.{ℕ, _+_, _≤_, _<_}
 use native.Mathlib.Omega.{arith}
+use Rattle.lists.proofs.Choice.{same-no}
 use Rattle.line.specs.Line.{lineFrom}
 use Rattle.line.specs.Alike.{LinesAlike}
 use Rattle.line.specs.Ranges.{LineInRange}
 use Rattle.line.proofs.Base.{base-in-range, base-alike}
 use Rattle.sheet.specs.Numbers.{Numbers}
-use Rattle.sheet.specs.Accepted.{InRange, SameNumbers}
+use Rattle.sheet.specs.Format.{pairsOf}
+use Rattle.sheet.specs.Accepted.{InRange, SameNumbers, withDelay}
 use Rattle.sheet.specs.Pairs.{IsPair, fieldOfPair, passengersOfPair}
 use Rattle.sheet.proofs.Pairs.{pair-has-field}
 use Rattle.settle.specs.LineOf.{lineOf}
@@ -25,26 +27,44 @@ line-in-range N h =
     let field = pair-has-field (N .trains) i j (pair _ i j a b c) in
     h .passengers _ (field .0) (field .1))
 
--- ---- the same numbers
+-- ---- the same numbers, from train k on
 
-module _ (N M : Numbers) (same : SameNumbers N M) where
+module _ (k : ℕ) (pos : 1 ≤ k) (N M : Numbers) (trains : N .trains ≡ M .trains) (period : N .period ≡ M .period)
+    (departure : (i : ℕ) → k ≤ i → i ≤ M .trains → N .times .departure i ≡ M .times .departure i)
+    (driving : (i : ℕ) → k ≤ i → i ≤ M .trains → N .times .driving i ≡ M .times .driving i)
+    (delay : (i : ℕ) → k ≤ i → i ≤ M .trains → N .times .delay i ≡ M .times .delay i)
+    (passengers : (f : ℕ) → 1 ≤ f → f ≤ pairsOf (M .trains) → N .passengers f ≡ M .passengers f) where
   -- m gives the pair its field
-  passengers-same : (i j : ℕ) → 1 ≤ i → i < j → j ≤ M .trains + 1 → passengersOfPair N i j ≡ passengersOfPair M i j
+  passengers-same : (i j : ℕ) → k ≤ i → i < j → j ≤ M .trains + 1 → passengersOfPair N i j ≡ passengersOfPair M i j
   unfolding passengersOfPair
   passengers-same i j a b c =
-      let field = pair-has-field (M .trains) i j (pair _ i j a b c) in
-      ap (λ (m : ℕ). N .passengers (fieldOfPair m i j)) (same .trains) ∙ same .passengers _ (field .0) (field .1)
+      let field = pair-has-field (M .trains) i j (pair _ i j (omega arith) b c) in
+      ap (λ (m : ℕ). N .passengers (fieldOfPair m i j)) trains ∙ passengers _ (field .0) (field .1)
 
   -- lines of m and T apart from the other numbers, because those of N and M are equal but not the same term
   abbrev Alike : ℕ → ℕ → Type 0
   Alike m T =
-      LinesAlike 1
+      LinesAlike k
       (lineFrom m T (N .times .departure) (N .times .driving) (N .times .delay) (passengersOfPair N)) (lineOf M)
 
-  pub lines-of-same : LinesAlike 1 (lineOf N) (lineOf M)
+  lines-from : LinesAlike k (lineOf N) (lineOf M)
   unfolding lineOf
-  lines-of-same =
-      subst (λ (m : ℕ). Alike m (N .period)) (sym (same .trains))
-      (subst (λ (T : ℕ). Alike (M .trains) T) (sym (same .period))
-      (base-alike 1 (M .trains) (M .period) _ _ _ _ _ _ _ _ (omega arith)
-      (same .departure) (same .driving) (same .delay) passengers-same))
+  lines-from =
+      subst (λ (m : ℕ). Alike m (N .period)) (sym trains)
+      (subst (λ (T : ℕ). Alike (M .trains) T) (sym period)
+      (base-alike k (M .trains) (M .period) _ _ _ _ _ _ _ _ pos departure driving delay passengers-same))
+
+pub lines-of-same : (N M : Numbers) → SameNumbers N M → LinesAlike 1 (lineOf N) (lineOf M)
+lines-of-same N M same =
+    lines-from 1 (omega arith) N M (same .trains) (same .period) (same .departure) (same .driving) (same .delay)
+    (same .passengers)
+
+-- one source delay replaced: from the next train on nothing changed
+pub lines-after : (N M : Numbers) (i v : ℕ) → SameNumbers (withDelay N i v) M
+    → LinesAlike (i + 1) (lineOf N) (lineOf M)
+lines-after N M i v same =
+    lines-from (i + 1) (omega arith) N M (same .trains) (same .period)
+    (λ j a b. same .departure j (omega arith) b)
+    (λ j a b. same .driving j (omega arith) b)
+    (λ j a b. sym (same-no _ _ (λ e. omega arith)) ∙ same .delay j (omega arith) b)
+    (same .passengers)

@@ -1,4 +1,5 @@
--- One source delay replaced in an accepted sheet: the sheet stays accepted, and every other field is as it was.
+-- One source delay replaced, in the same numbers and in an accepted sheet: the sheet stays accepted, and every other
+-- field is as it was.
 -- Assumes nothing.
 use mathlib.Core.Path.{_≡_, sym, ap, _∙_}
 use mathlib.Core.List.{List}
@@ -7,15 +8,27 @@ use Prim.Native.Nat.{ℕ, _+_, _-_, _*_, _≤_, _<_}
 use native.Mathlib.Decide.{ℕ-discrete}
 use native.Mathlib.Omega.{arith}
 use lib.Dec.{lit≤}
+use Rattle.lists.specs.Choice.{ifSame}
 use Rattle.lists.proofs.Choice.{same-yes, same-no}
 use Rattle.lists.proofs.Order.{lt-or-ge}
 use Rattle.bits.specs.Field.{Put}
 use Rattle.bits.proofs.Puts.{put-apart}
 use Rattle.sheet.specs.Format.{trainsOf, entry, bytesOf}
-use Rattle.sheet.specs.Numbers.{numbersOf}
+use Rattle.sheet.specs.Numbers.{Numbers, numbersOf}
 use Rattle.sheet.specs.Accepted.{InRange, AcceptedSheet, SameNumbers, withDelay, DelayReplaced}
 use Rattle.sheet.proofs.Lengths.{layout, trains-apart}
 use Rattle.sheet.proofs.Meaning.{in-range-same}
+
+pub with-delay-same : (N M : Numbers) (i v : ℕ) → SameNumbers N M → SameNumbers (withDelay N i v) (withDelay M i v)
+with-delay-same N M i v same =
+    record {
+      trains = same .trains;
+      period = same .period;
+      departure = same .departure;
+      driving = same .driving;
+      delay = λ j a b. ap (ifSame j i v) (same .delay j a b);
+      passengers = same .passengers;
+    }
 
 module _ (s t : List ℕ) (i v : ℕ) (ok : AcceptedSheet s) (least : 1 ≤ i) (most : i ≤ trainsOf s)
     (replaced : DelayReplaced s i v t) where

@@ -1,30 +1,64 @@
--- `plan` meets its contract: the lengths, the sheet, then the work on its numbers.
+-- `plan` meets its contract: the checks, then the work on the sheet's numbers.
 -- Assumes nothing.
 use borrow.Author.Needs.{needs}
-use mathlib.Core.Path.{refl, sym, ap, _∙_}
-use mathlib.Core.Logic.{inl, inr}
+use mathlib.Core.Path.{refl, sym, _∙_}
 use native.Mathlib.Nat.{le-refl}
 use native.Mathlib.Omega.{arith}
-use Rattle.rail.specs.Refusal.{blanksOf}
-use Rattle.rail.proofs.Checks.{then-stop, then-pass}
+use Rattle.line.specs.Line.{lineFrom}
+use Rattle.sheet.specs.Numbers.{numbersOf}
 use Rattle.sheet.specs.Checks.{sheetVerdict}
+use Rattle.sheet.specs.Accepted.{AcceptedSheet}
 use Rattle.decoder.proofs.Answers.{refused-verdict}
+use Rattle.settle.specs.LineOf.{lineOf}
 use Rattle.settle.specs.Buffers.{Buffers, buffers, RightLengths}
 use Rattle.planner.specs.Plan.{planVerdict}
-use Rattle.planner.proofs.Refusals.{right-of-fine, fine-of-right, buffers-refusal}
-use Rattle.planner.proofs.Taken.{taken-fine, taken-sound, taken-planned, refused-for}
-use Rattle.planner.proofs.Outcome.{plan-accepted, plan-refused}
+use Rattle.planner.proofs.Refusals.{right-or-unwritten, accepted-of-plan}
+use Rattle.planner.proofs.Taken.{taken-fine, taken-trains, taken-lengths, taken-same, sound-of-same}
+use Rattle.planner.proofs.Taken.{settled-of-same, settled-planned, refused-for}
+use Rattle.planner.proofs.Outcome.{outcome-accepted, outcome-refused}
 use Rattle.planner.proofs.plan.Statement.{statement}
 use Rattle.planner.proofs.plan.Tie as tie
 
-check-buffers-requires : tie.Need-check-buffers-requires
-check-buffers-requires c κs = search needs
+check-plan-requires : tie.Need-check-plan-requires
+check-plan-requires c κs = search needs
 
-enum-known-lengths : tie.Need-enum-known-lengths
-enum-known-lengths c = search needs
+enum-known-answer : tie.Need-enum-known-answer
+enum-known-answer c = search needs
 
 refuse-requires : tie.Need-refuse-requires
 refuse-requires c κs = search needs
+
+enum-known-answer-2 : tie.Need-enum-known-answer-2
+enum-known-answer-2 c = search needs
+
+abbrev start-of : tie.After-check-plan → tie.Start
+start-of c = c .before .before .before .before .before
+
+-- the buffers as they were lent
+abbrev lent-to : tie.After-check-plan → Buffers
+lent-to c =
+    let start = start-of c .args in
+    buffers (start .cells .now) (start .decisions .now) (start .delays .now)
+
+-- the checks passed: the buffers have the right lengths and the sheet is accepted
+passed : (c : tie.After-answer2) →
+    RightLengths (lent-to (c .before .before)) × AcceptedSheet (start-of (c .before .before) .args .sheet .now)
+unfolding planVerdict
+passed c =
+    accepted-of-plan _ (lent-to (c .before .before))
+    (taken-fine _ _ _ _ _ (c .before .before .check-plan .ensures) (c .answer2 .given .1))
+
+-- every row is worked, so that no later row is left to ask for
+settle-numbers-requires : tie.Need-settle-numbers-requires
+settle-numbers-requires c κs =
+    let told = c .before .before .before .before in
+    let checked = told .before .before .check-plan .ensures in
+    let answer = told .answer2 .given .1 in
+    let ok = passed told .1 in (
+      record { last = le-refl _; lengths = passed told .0; later = λ k l a b d. absurd (omega arith) },
+      sound-of-same _ _ _ _ (taken-lengths _ _ _ _ _ checked answer) (taken-same _ _ _ _ _ checked answer ok)
+          (ok .numbers),
+    )
 
 same-length : tie.Need-same-length
 same-length c = search needs
@@ -32,52 +66,18 @@ same-length c = search needs
 same-length-2 : tie.Need-same-length-2
 same-length-2 c = search needs
 
--- the buffers as they were lent
-abbrev lent-to : tie.After-check-buffers → Buffers
-lent-to c =
-    let start = c .before .before .before .before .before .args in
-    buffers (start .cells .now) (start .decisions .now) (start .delays .now)
-
--- a length is wrong: nothing is written
+-- refused
 returns : tie.Need-returns
 unfolding planVerdict
 returns c =
-    let refused = c .before .before .before .before in
+    let refused = c .before .before .before .before .refuse .ensures in
     let told = c .before .before .before .before .before .before .before .before in
+    let checked = told .before .before .check-plan .ensures in
     let lent = lent-to (told .before .before) in
-    let verdict = sym (told .lengths .given .1) ∙ told .before .before .check-buffers .ensures in
-    let blanks = ap blanksOf (sym (buffers-refusal lent _ (sym verdict))) in
-    plan-refused _ lent _ _ _ (then-stop _ _ refl verdict)
-    (refused-for _ lent _ _ (inr blanks) (refused .refuse .ensures .0) (refused .refuse .ensures .1)
-    (refused .refuse .ensures .2) refl)
-
-enum-told : tie.Need-enum-told
-enum-told c = search needs
-
-decode-requires : tie.Need-decode-requires
-decode-requires c κs = search needs
-
-enum-known-answer : tie.Need-enum-known-answer
-enum-known-answer c = search needs
-
-refuse-requires-2 : tie.Need-refuse-requires-2
-refuse-requires-2 c κs = search needs
-
-enum-known-answer-2 : tie.Need-enum-known-answer-2
-enum-known-answer-2 c = search needs
-
--- the buffers have the right lengths
-right : (c : tie.After-enum-told) → RightLengths (lent-to (c .before .before))
-right c = right-of-fine _ (sym (c .before .before .check-buffers .ensures) ∙ c .enum-told .given .1)
-
--- every row is worked, so that no later row is left to ask for
-settle-numbers-requires : tie.Need-settle-numbers-requires
-settle-numbers-requires c κs =
-    let decoded = c .before .before .before .before .before .before in
-    let answer = c .before .before .before .before .answer2 .given .1 in (
-      record { last = le-refl _; lengths = right (decoded .before); later = λ k l a b d. absurd (omega arith) },
-      taken-sound _ _ _ _ (decoded .decode .ensures) answer,
-    )
+    let verdict = refused-verdict _ _ _ (sym (told .answer .given .1) ∙ checked .answer) in
+    outcome-refused _ _ lent _ _ _ (sym verdict)
+    (refused-for _ lent _ _ (right-or-unwritten lent (sheetVerdict _) _ verdict) (refused .0) (refused .1) (refused .2)
+    refl)
 
 same-length-3 : tie.Need-same-length-3
 same-length-3 c = search needs
@@ -85,63 +85,35 @@ same-length-3 c = search needs
 same-length-4 : tie.Need-same-length-4
 same-length-4 c = search needs
 
--- the sheet is refused: blanks
-returns-2 : tie.Need-returns-2
-unfolding planVerdict
-returns-2 c =
-    let refused = c .before .before .before .before in
-    let told = c .before .before .before .before .before .before .before .before in
-    let decoded = told .before .before in
-    let lent = lent-to (decoded .before .before .before) in
-    let lengths = right (decoded .before) in
-    let answer = sym (told .answer .given .1) ∙ decoded .decode .ensures .answer in
-    let verdict = refused-verdict (sheetVerdict _) _ _ answer in
-    plan-refused _ lent _ _ _ (then-pass _ _ _ (fine-of-right lent lengths) (sym verdict))
-    (refused-for _ lent _ _ (inl lengths) (refused .refuse2 .ensures .0) (refused .refuse2 .ensures .1)
-    (refused .refuse2 .ensures .2) refl)
-
 same-length-5 : tie.Need-same-length-5
 same-length-5 c = search needs
 
-same-length-6 : tie.Need-same-length-6
-same-length-6 c = search needs
-
-same-length-7 : tie.Need-same-length-7
-same-length-7 c = search needs
-
--- the sheet is accepted: its plan
-returns-3 : tie.Need-returns-3
-unfolding planVerdict
-returns-3 c =
-    let settled = c .before .before .before .before .before .before in
-    let told = settled .before .before .before .before .before in
-    let decoded = told .before .before in
-    let lent = lent-to (decoded .before .before .before) in
+-- accepted: what is settled on the numbers of the columns is the plan of the sheet's line
+returns-2 : tie.Need-returns-2
+unfolding planVerdict lineOf lineFrom
+returns-2 c =
+    let settled = c .before .before .before .before .before .before .settle-numbers .ensures in
+    let told = c .before .before .before .before .before .before .before .before .before .before .before in
+    let checked = told .before .before .check-plan .ensures in
     let answer = told .answer2 .given .1 in
-    let fine = taken-fine _ _ _ _ (decoded .decode .ensures) answer in
-    plan-accepted _ lent _ _ (then-pass _ _ _ (fine-of-right lent (right (decoded .before))) (sym fine))
-    (taken-planned _ _ _ _ (decoded .decode .ensures) answer lent _ _ (settled .settle-numbers .ensures))
+    let lent = lent-to (told .before .before) in
+    outcome-accepted _ _ lent _ _ (sym (taken-fine _ _ _ _ _ checked answer)) refl
+    (settled-planned _ _ lent _ _ (taken-trains _ _ _ _ _ checked answer)
+    (settled-of-same _ (numbersOf _) _ lent _ _ (taken-same _ _ _ _ _ checked answer (passed told .1)) settled))
 
 pub plan-spec : {M : Type 1} → statement M
 plan-spec =
     tie.close
     (tie.spec
-    check-buffers-requires
-    enum-known-lengths
+    check-plan-requires
+    enum-known-answer
     refuse-requires
+    enum-known-answer-2
+    settle-numbers-requires
     same-length
     same-length-2
     returns
-    enum-told
-    decode-requires
-    enum-known-answer
-    refuse-requires-2
-    enum-known-answer-2
-    settle-numbers-requires
     same-length-3
     same-length-4
-    returns-2
     same-length-5
-    same-length-6
-    same-length-7
-    returns-3)
+    returns-2)

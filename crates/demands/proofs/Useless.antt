@@ -1,4 +1,5 @@
--- No useless version keeps the contract: on sheet B the answer is 176, and decision byte 2 is 0; with T 13 it is 1.
+-- No useless version keeps the contracts: on sheet B the answer is 176, and decision byte 2 is 0; with T 13 it is 1, and
+-- so it is after the report of b7, which answers 68.
 -- Assumes nothing.
 use mathlib.Core.Path.{_≡_, sym, ap, _∙_}
 use mathlib.Core.List.{List}
@@ -9,10 +10,12 @@ use Rattle.lists.proofs.Choice.{below-yes}
 use Rattle.lists.proofs.Order.{zero-not-one}
 use Rattle.lists.proofs.Run.{padded-nth}
 use Rattle.cells.specs.Shown.{shown}
-use Rattle.planner.specs.Sheets.{decisionsB, decisionsB13}
-use Rattle.planner.specs.Useless.{RefusesAllBreaks, SameDecisionsBreak, AllKeepBreaks, DoesNothingBreaks}
-use Rattle.planner.specs.Useless.{StaysBlankBreaks}
-use Rattle.planner.proofs.Sheets.{answers-b, answers-b13}
+use Rattle.planner.specs.Outcome.{answerTotal}
+use Rattle.demands.specs.Sheets.{decisionsB, keepKeep}
+use Rattle.demands.specs.Useless.{RefusesAllBreaks, SameDecisionsBreak, AllKeepBreaks, DoesNothingBreaks}
+use Rattle.demands.specs.Useless.{StaysBlankBreaks, RepeatsPlanBreaks}
+use Rattle.demands.proofs.Sheets.{answers-b, answers-b13}
+use Rattle.demands.proofs.Reports.{answers-b7}
 
 -- byte 2 of 64, the first three of which are given
 byte-two : (bytes ds : List ℕ) → bytes ≡ padded 64 3 (nth ds) → nth bytes 2 ≡ nth ds 2
@@ -26,7 +29,7 @@ refuses-all-breaks before after r right h =
 pub same-decisions-break : SameDecisionsBreak
 same-decisions-break before after before′ after′ a a′ right right′ h h′ same =
     let zero = byte-two (after .decisions) decisionsB (answers-b before after a right h .decisions) in
-    let one = byte-two (after′ .decisions) decisionsB13 (answers-b13 before′ after′ a′ right′ h′ .decisions) in
+    let one = byte-two (after′ .decisions) keepKeep (answers-b13 before′ after′ a′ right′ h′ .decisions) in
     zero-not-one (sym zero ∙ ap (λ (l : List ℕ). nth l 2) same ∙ one)
 
 pub all-keep-breaks : AllKeepBreaks
@@ -46,3 +49,20 @@ stays-blank-breaks before after a right blank h same =
     let zero = byte-two (after .decisions) decisionsB (answers-b before after a right h .decisions) in
     let two : nth (after .decisions) 2 ≡ 2 = ap (λ (l : List ℕ). nth l 2) (same ∙ blank) in
     absurd (omega (arith, zero, two))
+
+pub repeats-plan-breaks : RepeatsPlanBreaks
+repeats-plan-breaks after4 a4 t before after a h =
+    let old = answers-b (h .lent) after4 a4 (h .lent-right) (h .plan) in
+    let new = answers-b7 after4 a4 t before after a h in (
+      λ same.
+          let zero = byte-two (after4 .decisions) decisionsB (old .decisions) in
+          let one = byte-two (after .decisions) keepKeep (new .decisions) in
+          zero-not-one (sym zero ∙ sym (ap (λ (l : List ℕ). nth l 2) same) ∙ one),
+      λ same.
+          let nine : nth (after4 .delays) 1 ≡ 9
+          = padded-nth _ 64 3 _ (old .delays) (omega arith) 1 (omega arith) (omega arith) in
+          let five : nth (after .delays) 1 ≡ 5
+          = padded-nth _ 64 3 _ (new .delays) (omega arith) 1 (omega arith) (omega arith) in
+          absurd (omega (arith, nine, five, ap (λ (l : List ℕ). nth l 1) same)),
+      λ same. absurd (omega (arith, ap answerTotal (sym (new .answer) ∙ same ∙ old .answer))),
+    )

@@ -1,11 +1,12 @@
--- What the customer demands of plan: demand 1 as far as plan goes, and demand 2. The statements are about the contract
--- `Plan` alone, so they hold of whatever keeps it. That no arithmetic spills and no place outside is read is what the
--- proof of the function shows.
+-- What the customer demands of plan and report: demands 1 and 2; demand 3 is in Runs. The statements are about the
+-- contracts `Plan` and `Report` alone, so they hold of whatever keeps them. That no arithmetic spills and no place
+-- outside is read is what the proofs of the functions show.
 --   SameLengths b c           every list of c has the length that it had in b
 --   Blanked before after      the decisions and the delays are blank, the cells as they were
 --   Carries r a               the answer a carries number and place of the refusal r, and 0 for the total
---   Answered s before after a     what demand 1 says of one plan
---   Possible s before         buffers and an answer that the contract allows for the sheet s
+--   Answered checks Passes m last before after a     what demand 1 says of one call of plan or report
+--   PlanAnswered, ReportAnswered     of one plan, and of one report
+--   PlanPossible, ReportPossible     an outcome that the contract allows
 --   policyIn bytes            the policy that decision bytes show
 --   LeastPlan L after a       what demand 2 says of one accepted plan, of the line L
 --   Demand1, Demand2          the demands
@@ -16,7 +17,9 @@ use mathlib.Core.List.{List}
 use lib.ListN.{length, getD, replicate}
 use Rattle.lists.specs.Choice.{ifSame}
 use Rattle.lists.specs.Run.{nth, padded}
+use Rattle.bits.specs.Field.{Bytes}
 use Rattle.rail.specs.declared.Refusal.{Refusal}
+use Rattle.rail.specs.declared.Verdict.{Verdict}
 use Rattle.rail.specs.declared.Verdict.the-variants.{Refused}
 use Rattle.rail.specs.Refusal.{numberOf, placeOf}
 use Rattle.line.specs.Line.{Line}
@@ -30,10 +33,13 @@ use Rattle.sheet.specs.Accepted.{AcceptedSheet}
 use Rattle.meaning.specs.OneMeaning.{ReadThenWrite, WriteThenRead, EqualFields}
 use Rattle.cells.specs.Place.{place, InUse}
 use Rattle.cells.specs.Shown.{shown}
+use Rattle.amend.specs.Reported.{Reportable}
 use Rattle.settle.specs.LineOf.{lineOf}
-use Rattle.planner.specs.declared.Answer.{Answer}
 use Rattle.settle.specs.Buffers.{Buffers, RightLengths}
-use Rattle.planner.specs.Plan.{answerNumber, answerPlace, answerTotal, planVerdict, Plan}
+use Rattle.planner.specs.declared.Answer.{Answer}
+use Rattle.planner.specs.Outcome.{answerNumber, answerPlace, answerTotal}
+use Rattle.planner.specs.Plan.{planVerdict, Plan}
+use Rattle.planner.specs.Report.{reportVerdict, Report}
 
 -- ---- demand 1
 
@@ -52,38 +58,65 @@ pub record Carries (r : Refusal) (a : Answer) : Type 0 where
   pub place : answerPlace a ≡ placeOf r
   pub total : answerTotal a ≡ 0
 
-pub record Answered (s : List ℕ) (before after : Buffers) (a : Answer) : Type 0 where
-  -- Accepted, that is number 0, exactly when the buffers have the stated lengths and the sheet passes every check.
-  pub accepts : RightLengths before → AcceptedSheet s → answerNumber a ≡ 0
-  pub accepted-only : answerNumber a ≡ 0 → RightLengths before × AcceptedSheet s
+-- Of a call with these checks: none of them refuses exactly when the buffers have the stated lengths and Passes holds.
+-- The line has m trains, and rows 1 to last are worked.
+pub record Answered (checks : Verdict) (Passes : Type 0) (m last : ℕ) (before after : Buffers) (a : Answer)
+    : Type 0 where
+  -- Accepted, that is number 0, exactly when every check passes.
+  pub accepts : RightLengths before → Passes → answerNumber a ≡ 0
+  pub accepted-only : answerNumber a ≡ 0 → RightLengths before × Passes
   pub accepted-place : answerNumber a ≡ 0 → answerPlace a ≡ 0
   -- Bad input is refused by number, in a fixed order of checks: for the first check that fails.
-  pub refuses : (r : Refusal) → planVerdict s before ≡ Refused r → Carries r a
-  -- A refused plan, its buffers being of the right length, blanks the decisions and the delays, and changes neither
-  -- sheet nor working cells. The sheet is lent to be read.
+  pub refuses : (r : Refusal) → checks ≡ Refused r → Carries r a
+  -- A refused plan or report, its buffers being of the right length, blanks the decisions and the delays, and changes
+  -- no working cell.
   pub blanks : RightLengths before → ¬ (answerNumber a ≡ 0) → Blanked before after
   -- With another length the number is 10 and nothing at all is written.
   pub untouched : ¬ (RightLengths before) → (answerNumber a ≡ 10) × (after ≡ before)
-  -- Of the working cells an accepted plan writes those in use alone.
-  pub others : answerNumber a ≡ 0 → (p : ℕ) → ¬ (InUse (trainsOf s) (trainsOf s) p)
+  -- Of the working cells those in use of rows 1 to last are written alone.
+  pub others : answerNumber a ≡ 0 → (p : ℕ) → ¬ (InUse m last p)
       → getD (after .cells) p 0 ≡ getD (before .cells) p 0
   pub lengths : SameLengths before after
   -- No total can pass 1,916,928,000,000 passenger-minutes.
   pub most : answerTotal a ≤ limit
 
-pub record Possible (s : List ℕ) (before : Buffers) : Type 0 where
+-- The sheet is lent to plan to be read.
+abbrev pub PlanAnswered : List ℕ → Buffers → Buffers → Answer → Type 0
+PlanAnswered s before after a =
+    Answered (planVerdict s before) (AcceptedSheet s) (trainsOf s) (trainsOf s) before after a
+
+pub record ReportAnswered (s : List ℕ) (i v : ℕ) (before : Buffers) (t : List ℕ) (after : Buffers) (a : Answer)
+    : Type 0 where
+  pub answered : Answered (reportVerdict s i v before) (AcceptedSheet s × Reportable (trainsOf s) i v (before .cells))
+      (trainsOf s) i before after a
+  -- A refused report does not change the sheet, and none its length.
+  pub sheet : ¬ (answerNumber a ≡ 0) → t ≡ s
+  pub sheet-length : length t ≡ length s
+
+pub record PlanPossible (s : List ℕ) (before : Buffers) : Type 0 where
   pub after : Buffers
   pub answer : Answer
   pub plan : Plan s before after answer
 
+pub record ReportPossible (s : List ℕ) (i v : ℕ) (before : Buffers) : Type 0 where
+  pub sheet : List ℕ
+  pub after : Buffers
+  pub answer : Answer
+  pub report : Report s i v before sheet after answer
+
 pub record Demand1 : Type 0 where
-  -- Every sheet of bytes gets an answer, with any buffers: the contract can always be kept.
-  pub every-sheet : (s : List ℕ) (before : Buffers) → Possible s before
-  -- And no two: whatever keeps the contract leaves the same answer, cells, decisions and delays.
-  pub only-one : (s : List ℕ) (before after after′ : Buffers) (a a′ : Answer) → Plan s before after a
+  -- Every sheet of bytes and every report gets an answer, with any buffers: the contracts can always be kept.
+  pub every-sheet : (s : List ℕ) (before : Buffers) → PlanPossible s before
+  pub every-report : (s : List ℕ) → Bytes s → (i v : ℕ) (before : Buffers) → ReportPossible s i v before
+  -- And no two: whatever keeps a contract leaves the same answer, sheet, cells, decisions and delays.
+  pub one-plan : (s : List ℕ) (before after after′ : Buffers) (a a′ : Answer) → Plan s before after a
       → Plan s before after′ a′ → (a ≡ a′) × (after ≡ after′)
-  pub every-plan : (s : List ℕ) (before after : Buffers) (a : Answer) → Plan s before after a
-      → Answered s before after a
+  pub one-report : (s : List ℕ) (i v : ℕ) (before : Buffers) (t t′ : List ℕ) (after after′ : Buffers) (a a′ : Answer)
+      → Report s i v before t after a → Report s i v before t′ after′ a′ → (a ≡ a′) × (t ≡ t′) × (after ≡ after′)
+  pub of-plan : (s : List ℕ) (before after : Buffers) (a : Answer) → Plan s before after a
+      → PlanAnswered s before after a
+  pub of-report : (s : List ℕ) (i v : ℕ) (before : Buffers) (t : List ℕ) (after : Buffers) (a : Answer)
+      → Report s i v before t after a → ReportAnswered s i v before t after a
 
 -- ---- demand 2
 

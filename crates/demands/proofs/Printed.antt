@@ -1,77 +1,55 @@
--- What plan answers on sheets A, B and B with T 13. Each sheet is accepted and its line is that of its case, by
--- computing both; the printed rows of the case are worked, by computing each cell from them; so they give the plan.
+-- From what is printed for a line to what plan leaves: the printed rows are worked, each cell being what the rule makes
+-- of the others; so they give the plan, and the plan is one.
 -- Assumes nothing.
 use mathlib.Core.Path.{_≡_, refl, sym, ap, subst, _∙_}
-use mathlib.Core.List.{List, [], _∷_}
+use mathlib.Core.List.{List, []}
 use Prim.Native.Nat.{ℕ, _+_, _-_, _≤_}
 use native.Mathlib.Omega.{arith}
 use lib.ListN.{getD}
 use Rattle.lists.specs.Choice.{ifBelow}
-use Rattle.lists.specs.Run.{runOf, listed, padded, nth}
+use Rattle.lists.specs.Run.{listed, padded, nth}
 use Rattle.lists.proofs.Choice.{below-yes, below-no}
 use Rattle.lists.proofs.Run.{listed-each, listed-padded, padded-same}
 use Rattle.rail.specs.declared.Verdict.the-variants.{Fine}
-use Rattle.rail.specs.Verdict.{refuse_when_below_, _andThen_, firstOf}
-use Rattle.bits.specs.Field.{bitAt, fieldOf}
-use Rattle.line.specs.Sum.{sum_from_to_}
 use Rattle.line.specs.Line.{Line, lineFrom}
-use Rattle.line.specs.Policy.{Policy, arrival, excess, departure, total}
-use Rattle.line.specs.Cells.{Table, leaving, aboard, bookOf, runFrom, excessOn, arrivalOn, keepCost, goCost, cellBy}
-use Rattle.line.specs.Cells.{Worked, choice, begins, policyBy, decide}
+use Rattle.line.specs.Policy.{Policy, arrival, total}
+use Rattle.line.specs.Cells.{Table, bookOf, cellBy}
+use Rattle.line.specs.Cells.{Worked, decide}
 use Rattle.line.specs.Alike.{LinesAlike}
 use Rattle.line.specs.Ways.{Rows, tableFrom}
-use Rattle.line.specs.Cases.{lineA, lineB, delaysB}
 use Rattle.line.proofs.Days.{same-days, same-total}
 use Rattle.line.proofs.Alike.{books-of-lines}
 use Rattle.line.proofs.Tables.{worked-for-alike, worked-one}
 use Rattle.line.proofs.Worked.{decided-total, decided-is-plan}
 use Rattle.line.proofs.Plan.{plan-one, plan-alike}
 use Rattle.line.proofs.Base.{base-alike}
-use Rattle.sheet.specs.Format.{entry, bitsOf, bytesOf, pairsOf}
 use Rattle.sheet.specs.Numbers.{numbersOf}
-use Rattle.sheet.specs.Pairs.{fieldsUpTo, fieldOfPair, passengersOfPair}
-use Rattle.sheet.specs.Checks.{rangesVerdict, earliestOf, trainVerdict, passengersVerdict, numbersVerdict}
-use Rattle.sheet.specs.Checks.{headVerdict, fillingVerdict, bodyVerdict, sheetVerdict}
-use Rattle.sheet.specs.SheetA.{sheetA}
-use Rattle.sheet.proofs.Sample.{sheet-a-accepted}
+use Rattle.sheet.specs.Checks.{sheetVerdict}
 use Rattle.cells.specs.Place.{place, tableOf}
 use Rattle.cells.specs.Shown.{byteOf, shown}
 use Rattle.settle.specs.LineOf.{lineOf}
 use Rattle.planner.specs.declared.Answer.{Answer}
 use Rattle.planner.specs.declared.Answer.the-variants.{Accepted}
 use Rattle.settle.specs.Buffers.{Buffers, RightLengths}
-use Rattle.planner.specs.Plan.{Planned, Plan}
-use Rattle.planner.specs.Sheets.{sheetB, sheetB13, Leaves, AnswersA, decisionsB, rowsB, AnswersB}
-use Rattle.planner.specs.Sheets.{decisionsB13, rowsB13, AnswersB13}
-use Rattle.planner.proofs.Refusals.{plan-of-sheet}
+use Rattle.planner.specs.Plan.{planVerdict, Planned, Plan}
+use Rattle.demands.specs.Sheets.{Leaves}
+use Rattle.planner.proofs.Refusals.{checks-right}
 use Rattle.cells.proofs.Shown.{shown-same}
 
 -- ---- two tables that are equal at a few pairs, since the lists of their values are
 
 -- the values at the pairs k ≤ l ≤ n, row by row
-pairRows : ℕ → Table → Rows
+unfoldable pub pairRows : ℕ → Table → Rows
 pairRows n f = listed (λ k. listed (f k) k (n + 1 - k)) 1 n
 
-same-pairs : (f g : Table) (n : ℕ) → pairRows n f ≡ pairRows n g → (k l : ℕ) → 1 ≤ k → k ≤ l → l ≤ n → f k l ≡ g k l
+pub same-pairs : (f g : Table) (n : ℕ) → pairRows n f ≡ pairRows n g → (k l : ℕ) → 1 ≤ k → k ≤ l → l ≤ n → f k l ≡ g k l
 unfolding pairRows
 same-pairs f g n e k l u v w =
     listed-each 0 (f k) (g k) k (n + 1 - k) (listed-each [] _ _ 1 n e k u (omega arith)) l v (omega arith)
 
--- ---- the sheets are accepted
+-- ---- lines whose numbers are equal as lists are alike
 
-pub sheet-b-accepted : sheetVerdict sheetB ≡ Fine
-unfolding sheetVerdict headVerdict rangesVerdict bodyVerdict numbersVerdict trainVerdict earliestOf passengersVerdict
-    fillingVerdict refuse_when_below_ _andThen_ firstOf runOf ifBelow bitAt fieldOf entry bitsOf bytesOf pairsOf
-sheet-b-accepted = refl
-
-pub sheet-b13-accepted : sheetVerdict sheetB13 ≡ Fine
-unfolding sheetVerdict headVerdict rangesVerdict bodyVerdict numbersVerdict trainVerdict earliestOf passengersVerdict
-    fillingVerdict refuse_when_below_ _andThen_ firstOf runOf ifBelow bitAt fieldOf entry bitsOf bytesOf pairsOf
-sheet-b13-accepted = refl
-
--- ---- and have the lines of their cases
-
-lines-same : (m T : ℕ) (d d′ r r′ y y′ : ℕ → ℕ) (n n′ : ℕ → ℕ → ℕ)
+pub lines-same : (m T : ℕ) (d d′ r r′ y y′ : ℕ → ℕ) (n n′ : ℕ → ℕ → ℕ)
     → listed d 1 m ≡ listed d′ 1 m
     → listed r 1 m ≡ listed r′ 1 m
     → listed y 1 m ≡ listed y′ 1 m
@@ -86,50 +64,23 @@ lines-same m T d d′ r r′ y y′ n n′ departures driving delays passengers 
     let e : j - 1 + 1 ≡ j = omega arith in
     subst (λ (x : ℕ). n i x ≡ n′ i x) e (same-pairs _ _ m passengers i (j - 1) a (omega arith) (omega arith)))
 
-pub line-of-sheet-a : LinesAlike 1 (lineOf (numbersOf sheetA)) lineA
-unfolding lineOf passengersOfPair fieldOfPair fieldsUpTo bitAt fieldOf entry pairRows listed runOf
-line-of-sheet-a = lines-same 1 10 _ _ _ _ _ _ _ _ refl refl refl refl
-
-pub line-of-sheet-b : LinesAlike 1 (lineOf (numbersOf sheetB)) (lineB 10 delaysB)
-unfolding lineOf passengersOfPair fieldOfPair fieldsUpTo bitAt fieldOf entry pairRows listed runOf
-line-of-sheet-b = lines-same 3 10 _ _ _ _ _ _ _ _ refl refl refl refl
-
-pub line-of-sheet-b13 : LinesAlike 1 (lineOf (numbersOf sheetB13)) (lineB 13 delaysB)
-unfolding lineOf passengersOfPair fieldOfPair fieldsUpTo bitAt fieldOf entry pairRows listed runOf
-line-of-sheet-b13 = lines-same 3 13 _ _ _ _ _ _ _ _ refl refl refl refl
-
 -- ---- what plan leaves on a sheet whose line is M, where rows are printed
 
 -- the printed cells; for l = m + 1 the value is 0
-printedCells : ℕ → Rows → Table
+unfoldable pub printedCells : ℕ → Rows → Table
 printedCells m rows k l = ifBelow m l 0 (tableFrom rows k l)
 
-abbrev printedPolicy : Line → Rows → Policy
+abbrev pub printedPolicy : Line → Rows → Policy
 printedPolicy M rows = decide (bookOf M) (printedCells (M .trains) rows)
 
 -- What is printed for a line: each cell is what the rule makes of the others, and the rest is read off the cells. All
 -- four are computed.
-record Printed (M : Line) (n : ℕ) (ds ys : List ℕ) (rows : Rows) : Type 0 where
-  rule : pairRows (M .trains) (printedCells (M .trains) rows)
+pub record Printed (M : Line) (n : ℕ) (ds ys : List ℕ) (rows : Rows) : Type 0 where
+  pub rule : pairRows (M .trains) (printedCells (M .trains) rows)
       ≡ pairRows (M .trains) (cellBy (bookOf M) (printedCells (M .trains) rows))
-  corner : printedCells (M .trains) rows 1 1 ≡ n
-  decisions : listed (λ i. ifBelow 1 i (byteOf (printedPolicy M rows i)) 0) 1 (M .trains) ≡ ds
-  delays : listed (arrival (M .running) (printedPolicy M rows)) 1 (M .trains) ≡ ys
-
-printed-a : Printed lineA 21 (0 ∷ []) (7 ∷ []) ((21 ∷ []) ∷ [])
-unfolding ifBelow runOf listed sum_from_to_ lineFrom arrival excess departure leaving aboard runFrom excessOn arrivalOn
-    keepCost goCost cellBy choice begins policyBy decide pairRows printedCells
-printed-a = record { rule = refl; corner = refl; decisions = refl; delays = refl }
-
-printed-b : Printed (lineB 10 delaysB) 176 decisionsB (9 ∷ 3 ∷ 0 ∷ []) rowsB
-unfolding ifBelow runOf listed sum_from_to_ lineFrom arrival excess departure leaving aboard runFrom excessOn arrivalOn
-    keepCost goCost cellBy choice begins policyBy decide pairRows printedCells
-printed-b = record { rule = refl; corner = refl; decisions = refl; delays = refl }
-
-printed-b13 : Printed (lineB 13 delaysB) 202 decisionsB13 (9 ∷ 7 ∷ 2 ∷ []) rowsB13
-unfolding ifBelow runOf listed sum_from_to_ lineFrom arrival excess departure leaving aboard runFrom excessOn arrivalOn
-    keepCost goCost cellBy choice begins policyBy decide pairRows printedCells
-printed-b13 = record { rule = refl; corner = refl; decisions = refl; delays = refl }
+  pub corner : printedCells (M .trains) rows 1 1 ≡ n
+  pub decisions : listed (λ i. ifBelow 1 i (byteOf (printedPolicy M rows i)) 0) 1 (M .trains) ≡ ds
+  pub delays : listed (arrival (M .running) (printedPolicy M rows)) 1 (M .trains) ≡ ys
 
 module _ (s : List ℕ) (M : Line) (n : ℕ) (ds ys : List ℕ) (rows : Rows) (fine : sheetVerdict s ≡ Fine)
     (alike : LinesAlike 1 (lineOf (numbersOf s)) M) (print : Printed M n ds ys rows)
@@ -150,7 +101,8 @@ module _ (s : List ℕ) (M : Line) (n : ℕ) (ds ys : List ℕ) (rows : Rows) (f
       }
 
   plan : Planned L before after a
-  plan = h .accepted (plan-of-sheet s before right ∙ fine)
+  unfolding planVerdict
+  plan = h .accepted (checks-right before (sheetVerdict s) right ∙ fine)
 
   -- the plan is one, and it is read off the printed cells
   agrees : (i : ℕ) → 2 ≤ i → i ≤ L .trains → plan .policy i ≡ q i
@@ -187,7 +139,7 @@ module _ (s : List ℕ) (M : Line) (n : ℕ) (ds ys : List ℕ) (rows : Rows) (f
       k l u v (omega arith) in
       sym (below-no _ _ w) ∙ same ∙ below-no _ _ w
 
-  leaves : Leaves (M .trains) n ds ys rows after a
+  pub leaves : Leaves (M .trains) n ds ys rows after a
   leaves =
       record {
         answer = plan .answer ∙ ap Accepted total-is;
@@ -195,17 +147,3 @@ module _ (s : List ℕ) (M : Line) (n : ℕ) (ds ys : List ℕ) (rows : Rows) (f
         delays = delays-are;
         cells = cells-are;
       }
-
--- ---- the three sheets
-
-pub answers-a : AnswersA
-unfolding lineFrom
-answers-a = leaves sheetA lineA _ _ _ _ sheet-a-accepted line-of-sheet-a printed-a
-
-pub answers-b : AnswersB
-unfolding lineFrom
-answers-b = leaves sheetB (lineB 10 delaysB) _ _ _ _ sheet-b-accepted line-of-sheet-b printed-b
-
-pub answers-b13 : AnswersB13
-unfolding lineFrom
-answers-b13 = leaves sheetB13 (lineB 13 delaysB) _ _ _ _ sheet-b13-accepted line-of-sheet-b13 printed-b13

@@ -1,11 +1,13 @@
--- Sheet B of document 01, "Sums to check by hand", and what plan answers on sheets A, B and B with T 13 (cases a, b4
--- and b6).
+-- Sheet B of document 01, "Sums to check by hand"; what plan answers on sheets A, B and B with T 13 (cases a, b4 and
+-- b6), and what two reports answer after the plan of B (cases b7 and b8).
 --   sheetB, sheetB13             the bytes of sheet B, by the layout of "The bit sheet", and of B with T 13
 --   Leaves m n ds ys rows after a     m trains: the total is n; the decision bytes begin with ds and the delays with
 --                                ys, the rest 0; the cells in use are these rows
 --   Answers s m n ds ys rows     plan leaves that on the sheet s, whatever buffers of the right lengths held before
 --   AnswersA, AnswersB, AnswersB13     of cases a, b4 and b6
---   decisionsB, rowsB, decisionsB13, rowsB13     the bytes and rows of cases b4 and b6 (line/specs/Cases)
+--   ReportAfterB4                the report of case b7, after the plan of case b4
+--   AnswersB7, AnswersB8         of cases b7 and b8
+--   decisionsB, rowsB, keepKeep, rowsB13, rowsB7, rowsB8     the bytes and rows of the cases (line/specs/Cases)
 -- Assumes nothing.
 use Prim.Native.Nat.{ℕ, _≤_}
 use mathlib.Core.Path.{_≡_}
@@ -15,10 +17,11 @@ use Rattle.lists.specs.Run.{nth, padded}
 use Rattle.line.specs.Ways.{Rows, tableFrom}
 use Rattle.sheet.specs.SheetA.{sheetA}
 use Rattle.cells.specs.Place.{place}
 use Rattle.planner.specs.declared.Answer.{Answer}
 use Rattle.planner.specs.declared.Answer.the-variants.{Accepted}
 use Rattle.settle.specs.Buffers.{Buffers, RightLengths}
 use Rattle.planner.specs.Plan.{Plan}
+use Rattle.planner.specs.Report.{Report}
 
 -- m 3, T 10; departures 10, 30, 55; driving 15, 20, 12; delays 9, 3, 0; passengers 1-2: 4, 1-3: 6, 1-4: 5, 2-3: 10,
 -- 2-4: 2, 3-4: 20
@@ -58,11 +61,47 @@ AnswersB = Answers sheetB 3 176 decisionsB (9 ∷ 3 ∷ 0 ∷ []) rowsB
 
 -- ---- b6: keep, keep
 
-abbrev pub decisionsB13 : List ℕ
-decisionsB13 = 0 ∷ 1 ∷ 1 ∷ []
+abbrev pub keepKeep : List ℕ
+keepKeep = 0 ∷ 1 ∷ 1 ∷ []
 
 abbrev pub rowsB13 : Rows
 rowsB13 = (202 ∷ 166 ∷ 54 ∷ []) ∷ (30 ∷ 0 ∷ []) ∷ (0 ∷ []) ∷ []
 
 abbrev pub AnswersB13 : Type 0
-AnswersB13 = Answers sheetB13 3 202 decisionsB13 (9 ∷ 7 ∷ 2 ∷ []) rowsB13
+AnswersB13 = Answers sheetB13 3 202 keepKeep (9 ∷ 7 ∷ 2 ∷ []) rowsB13
+
+-- ---- b7: b4, then train 1 reported at 5; b8: b7, then train 2 at 6
+
+abbrev pub rowsB7 : Rows
+rowsB7 = (68 ∷ 48 ∷ 0 ∷ []) ∷ (30 ∷ 0 ∷ []) ∷ (0 ∷ []) ∷ []
+
+abbrev pub rowsB8 : Rows
+rowsB8 = (143 ∷ 123 ∷ 27 ∷ []) ∷ (80 ∷ 20 ∷ []) ∷ (0 ∷ []) ∷ []
+
+-- Sheet B is planned, and then train 1 is reported at 5, with buffers of the right lengths.
+pub record ReportAfterB4 (after4 : Buffers) (a4 : Answer) (t : List ℕ) (before after : Buffers) (a : Answer)
+    : Type 0 where
+  pub lent : Buffers
+  pub lent-right : RightLengths lent
+  pub plan : Plan sheetB lent after4 a4
+  -- nobody else wrote the cells
+  pub cells : before .cells ≡ after4 .cells
+  pub right : RightLengths before
+  pub report : Report sheetB 1 5 before t after a
+
+abbrev pub AnswersB7 : Type 0
+AnswersB7 =
+    (after4 : Buffers) (a4 : Answer) (t : List ℕ) (before after : Buffers) (a : Answer)
+    → ReportAfterB4 after4 a4 t before after a
+    → Leaves 3 68 keepKeep (5 ∷ 3 ∷ 0 ∷ []) rowsB7 after a
+
+-- Then train 2 is reported at 6.
+abbrev pub AnswersB8 : Type 0
+AnswersB8 =
+    (after4 : Buffers) (a4 : Answer) (t : List ℕ) (before7 after7 : Buffers) (a7 : Answer)
+    (u : List ℕ) (before after : Buffers) (a : Answer)
+    → ReportAfterB4 after4 a4 t before7 after7 a7
+    → before .cells ≡ after7 .cells
+    → RightLengths before
+    → Report t 2 6 before u after a
+    → Leaves 3 143 keepKeep (5 ∷ 6 ∷ 1 ∷ []) rowsB8 after a

@@ -1,23 +1,26 @@
--- The useless versions of plan. Document 01, "What the contracts have to say": each of them breaks the contract, on
--- sheet B with buffers of the right lengths.
+-- The useless versions of plan and report. Document 01, "What the contracts have to say": each of them breaks the
+-- contract, on sheet B with buffers of the right lengths.
 --   RefusesAllBreaks     one that refuses all sheets: sheet B is never refused
 --   SameDecisionsBreak   one with the same decisions for all lines: those on sheet B differ from those on B with T 13,
 --   AllKeepBreaks        and are not keep throughout
 --   DoesNothingBreaks    one that does nothing: decisions other than the plan's do not stay as they were,
 --   StaysBlankBreaks     nor do blank ones
+--   RepeatsPlanBreaks    one that plans honestly and then merely repeats its plan at each report: after b4 the report
+--                        of b7 leaves other decisions, other delays and another total than the plan
 -- Assumes nothing.
 use Prim.Native.Nat.{ℕ}
 use mathlib.Core.Path.{_≡_}
+use mathlib.Core.List.{List}
 use lib.ListN.{replicate}
 use Rattle.lists.specs.Run.{nth, padded}
 use Rattle.rail.specs.declared.Refusal.{Refusal}
 use Rattle.line.specs.Policy.{Keep}
 use Rattle.cells.specs.Shown.{shown}
 use Rattle.planner.specs.declared.Answer.{Answer}
 use Rattle.planner.specs.declared.Answer.the-variants.{Refused as AnswerRefused}
 use Rattle.settle.specs.Buffers.{Buffers, RightLengths}
 use Rattle.planner.specs.Plan.{Plan}
-use Rattle.planner.specs.Sheets.{sheetB, sheetB13, decisionsB}
+use Rattle.demands.specs.Sheets.{sheetB, sheetB13, decisionsB, ReportAfterB4}
 
 abbrev pub RefusesAllBreaks : Type 0
 RefusesAllBreaks =
@@ -56,3 +59,9 @@ StaysBlankBreaks =
     → before .decisions ≡ replicate 64 2
     → Plan sheetB before after a
     → ¬ (after .decisions ≡ before .decisions)
+
+abbrev pub RepeatsPlanBreaks : Type 0
+RepeatsPlanBreaks =
+    (after4 : Buffers) (a4 : Answer) (t : List ℕ) (before after : Buffers) (a : Answer)
+    → ReportAfterB4 after4 a4 t before after a
+    → ¬ (after .decisions ≡ after4 .decisions) × ¬ (after .delays ≡ after4 .delays) × ¬ (a ≡ a4)

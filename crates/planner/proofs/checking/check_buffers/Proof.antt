@@ -1,9 +1,9 @@
--- `check_buffers` meets its contract: each answer is the first check that refuses.
+-- `checking::check_buffers` meets its contract: each answer is the first check that refuses.
 -- Assumes nothing.
 use Rattle.rail.proofs.Checks.{chain}
-use Rattle.planner.specs.Plan.{bufferLengthsVerdict}
-use Rattle.planner.proofs.check_buffers.Statement.{statement}
-use Rattle.planner.proofs.check_buffers.Tie as tie
+use Rattle.planner.specs.Outcome.{bufferLengthsVerdict}
+use Rattle.planner.proofs.checking.check_buffers.Statement.{statement}
+use Rattle.planner.proofs.checking.check_buffers.Tie as tie
 
 returns : tie.Need-returns
 unfolding bufferLengthsVerdict

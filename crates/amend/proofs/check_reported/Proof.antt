@@ -1,0 +1,29 @@
+-- `check_reported` meets its contract: each answer is the first check that refuses.
+-- Assumes nothing.
+use borrow.Author.Needs.{needs}
+use Rattle.rail.proofs.Checks.{chain}
+use Rattle.amend.specs.Reported.{reportedVerdict}
+use Rattle.amend.proofs.check_reported.Statement.{statement}
+use Rattle.amend.proofs.check_reported.Tie as tie
+
+returns : tie.Need-returns
+unfolding reportedVerdict
+returns c = search chain
+
+returns-2 : tie.Need-returns-2
+unfolding reportedVerdict
+returns-2 c = search chain
+
+returns-3 : tie.Need-returns-3
+unfolding reportedVerdict
+returns-3 c = search chain
+
+check-rows-after-requires : tie.Need-check-rows-after-requires
+check-rows-after-requires c κs = search needs
+
+returns-4 : tie.Need-returns-4
+unfolding reportedVerdict
+returns-4 c = search chain
+
+pub check-reported-spec : {M : Type 1} → statement M
+check-reported-spec = tie.close (tie.spec returns returns-2 returns-3 check-rows-after-requires returns-4)

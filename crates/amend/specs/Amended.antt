@@ -1,0 +1,25 @@
+-- The new delay among the columns of a sheet, and the room that its field needs. Document 01, "Four operations",
+-- report: that field of the sheet is replaced.
+--   withDelayIn c i v   the columns c with the source delay of train i replaced by v
+--   DelayRoom s i v     the field of train i's source delay lies in the sheet s, and v fits it
+-- Assumes nothing.
+use Prim.Native.Nat.{ℕ, _+_, _-_, _*_, _≤_}
+use mathlib.Core.List.{List}
+use lib.ListN.{length, set}
+use Rattle.decoder.specs.declared.Columns.{Columns}
+
+abbrev pub withDelayIn : Columns → ℕ → ℕ → Columns
+withDelayIn c i v =
+    record {
+      departures = c .departures;
+      driving = c .driving;
+      delays = set (c .delays) (i - 1) v;
+      passengers = c .passengers;
+    }
+
+-- the head has 18 bits and each train 33, of which the delay is the last 11
+pub record DelayRoom (s : List ℕ) (i v : ℕ) : Type 0 where
+  pub least : 1 ≤ i
+  pub most : i ≤ 64
+  pub within : 18 + 33 * i ≤ 8 * length s
+  pub small : v ≤ 1440

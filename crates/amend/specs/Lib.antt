@@ -1,0 +1,2 @@
+pub mod Reported
+pub mod Amended

@@ -1,0 +1,41 @@
+-- The checks that are a report's own. Document 01, "Numbers of refusal, in the order of checking": 11, 6 and 12.
+--   cellVerdict m cells k l         12 for cell (k, l) of a line of m trains
+--   rowVerdict m cells k            12 for the cells in use of row k
+--   laterVerdict m cells i          12 for the rows after train i, the first first
+--   reportedVerdict m i v cells     11, 6, 12 for a report of v minutes for train i
+--   Reportable m i v cells          none of them
+-- Assumes nothing.
+use Prim.Native.Nat.{ℕ, _+_, _-_, _≤_, _<_}
+use mathlib.Core.List.{List}
+use Rattle.rail.specs.declared.Refusal.the-variants.{NoSuchTrain, NewDelay, CellOverLimit}
+use Rattle.rail.specs.declared.Verdict.{Verdict}
+use Rattle.rail.specs.declared.Verdict.the-variants.{Fine}
+use Rattle.rail.specs.Refusal.{train}
+use Rattle.rail.specs.Verdict.{refuse_when_below_, _andThen_, firstOf}
+use Rattle.line.specs.Ranges.{limit}
+use Rattle.cells.specs.Place.{tableOf}
+
+-- a cell in use in a row after the train is over 1,916,928,000,000; the place is the first such row
+unfoldable pub cellVerdict : ℕ → List ℕ → ℕ → ℕ → Verdict
+cellVerdict m cells k l = (refuse (CellOverLimit k) when limit below tableOf m cells k l) andThen Fine
+
+unfoldable pub rowVerdict : ℕ → List ℕ → ℕ → Verdict
+rowVerdict m cells k = firstOf (cellVerdict m cells k) k (m + 1 - k)
+
+unfoldable pub laterVerdict : ℕ → List ℕ → ℕ → Verdict
+laterVerdict m cells i = firstOf (rowVerdict m cells) (i + 1) (m - i)
+
+-- train is 0 or over m; new delay over 1,440; then the later rows
+unfoldable pub reportedVerdict : ℕ → ℕ → ℕ → List ℕ → Verdict
+reportedVerdict m i v cells =
+    (refuse NoSuchTrain when i below 1)
+    andThen (refuse NoSuchTrain when m below i)
+    andThen (refuse (NewDelay (train i)) when 1440 below v)
+    andThen laterVerdict m cells i
+
+-- none of them, as plain facts
+pub record Reportable (m i v : ℕ) (cells : List ℕ) : Type 0 where
+  pub least : 1 ≤ i
+  pub most : i ≤ m
+  pub delay : v ≤ 1440
+  pub later : (k l : ℕ) → i < k → k ≤ l → l ≤ m → tableOf m cells k l ≤ limit

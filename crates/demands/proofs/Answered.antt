@@ -1,0 +1,228 @@
+-- Demand 1 of one call: what follows from an outcome of checks that begin with the lengths of the buffers, once for plan
+-- and report; and what an accepted plan and an accepted report leave.
+-- Assumes nothing.
+use mathlib.Core.Path.{_≡_, refl, sym, ap, subst, _∙_}
+use mathlib.Core.Bool.{true}
+use mathlib.Core.List.{List}
+use mathlib.Core.Logic.{inl, inr}
+use Prim.Native.Nat.{ℕ, _≤_, zero-le}
+use native.Mathlib.Nat.{le-trans, le-of-eq, le-refl}
+use native.Mathlib.Omega.{arith}
+use lib.ListN.{length, getD, length-replicate}
+use Rattle.lists.proofs.Choice.{if-yes}
+use Rattle.lists.proofs.Run.{padded-length}
+use Rattle.rail.specs.declared.Refusal.{Refusal}
+use Rattle.rail.specs.declared.Refusal.the-variants.{BufferLength}
+use Rattle.rail.specs.declared.Verdict.{Verdict}
+use Rattle.rail.specs.declared.Verdict.the-variants.{Fine, Refused}
+use Rattle.rail.specs.Refusal.{blanksOf}
+use Rattle.rail.specs.Verdict.{_andThen_, numberIn, placeIn}
+use Rattle.rail.proofs.Checks.{fine-or-refused}
+use Rattle.rail.proofs.Refusing.{zero-is-fine}
+use Rattle.line.specs.Line.{Line, lineFrom}
+use Rattle.line.specs.Cells.{bookOf}
+use Rattle.line.specs.Ranges.{limit, LineInRange}
+use Rattle.line.proofs.Bounds.{cell-le}
+use Rattle.line.proofs.Totals.{total-le, range-of-line}
+use Rattle.sheet.specs.Format.{trainsOf}
+use Rattle.sheet.specs.Numbers.{numbersOf}
+use Rattle.sheet.specs.Checks.{sheetVerdict}
+use Rattle.sheet.specs.Accepted.{AcceptedSheet}
+use Rattle.sheet.proofs.Facts.{accepted-of-fine, fine-of-accepted}
+use Rattle.sheet.proofs.Refusals.{sheet-refusal-blanks}
+use Rattle.sheet.proofs.Amend.{replaced-numbers, replaced-accepted}
+use Rattle.cells.specs.Place.{InUse}
+use Rattle.cells.proofs.Shown.{shown-length}
+use Rattle.amend.specs.Reported.{Reportable}
+use Rattle.settle.specs.LineOf.{lineOf}
+use Rattle.settle.specs.Buffers.{Buffers, RightLengths}
+use Rattle.settle.specs.Settled.{Settled}
+use Rattle.settle.proofs.Lines.{line-in-range}
+use Rattle.settle.proofs.Settles.{buffers-one}
+use Rattle.planner.specs.declared.Answer.{Answer}
+use Rattle.planner.specs.Outcome.{answerNumber, answerTotal, buffersVerdict, Outcome}
+use Rattle.planner.specs.Plan.{planVerdict, Planned, Plan}
+use Rattle.planner.specs.Report.{reportVerdict, Reported, Report}
+use Rattle.planner.proofs.Refusals.{right-of-fine, checks-right, checks-wrong, checks-fine, afterLengths}
+use Rattle.planner.proofs.Refusals.{reports-of-fine, fine-of-reports, reports-blanks}
+use Rattle.demands.specs.Demands.{SameLengths, Blanked, Carries, Answered, PlanAnswered, ReportAnswered}
+
+-- what an accepted call leaves: lengths as stated, nothing written but rows 1 to last, a total within the limit
+record Left (m last : ℕ) (before after : Buffers) (a : Answer) : Type 0 where
+  lengths : RightLengths after
+  others : (p : ℕ) → ¬ (InUse m last p) → getD (after .cells) p 0 ≡ getD (before .cells) p 0
+  most : answerTotal a ≤ limit
+
+-- ---- from the outcome
+
+-- the lengths, then the checks w
+module _ (w : Verdict) (Stored : Type 0) (before after : Buffers) (a : Answer)
+    (h : Outcome (buffersVerdict before andThen w) Stored before after a) where
+  abbrev checks : Verdict
+  checks = buffersVerdict before andThen w
+
+  -- accepted is the verdict of no check
+  pub fine-of-zero : answerNumber a ≡ 0 → checks ≡ Fine
+  fine-of-zero e = zero-is-fine _ (sym (h .number) ∙ e)
+
+  pub zero-of-fine : checks ≡ Fine → answerNumber a ≡ 0
+  zero-of-fine fine = h .number ∙ ap numberIn fine
+
+  refused-by : (r : Refusal) → checks ≡ Refused r → Carries r a
+  refused-by r e =
+      record {
+        number = h .number ∙ ap numberIn e;
+        place = h .place ∙ ap placeIn e;
+        total = ap answerTotal (h .refused r e .answer);
+      }
+
+  -- with buffers of other lengths it writes nothing
+  nothing-written : checks ≡ Refused BufferLength → after ≡ before
+  nothing-written e =
+      let left = h .refused BufferLength e in
+      buffers-one after before (left .cells) (left .decisions) (left .delays)
+
+  module _ (Passes : Type 0) (m last : ℕ) (passes : w ≡ Fine → Passes) (fine-of : Passes → w ≡ Fine)
+      (blank : (r : Refusal) → w ≡ Refused r → blanksOf r ≡ true)
+      (left : RightLengths before → w ≡ Fine → Stored → Left m last before after a) where
+    left-when : checks ≡ Fine → Left m last before after a
+    left-when fine = let both = checks-fine before w fine in left (both .0) (both .1) (h .accepted fine)
+
+    -- with buffers of the right lengths a refusal is one of w's, and such a one blanks
+    blanked : RightLengths before → (r : Refusal) → checks ≡ Refused r → Blanked before after
+    blanked right r e =
+        let blanks = blank r (sym (checks-right before w right) ∙ e) in
+        let refused = h .refused r e in
+        record {
+          decisions = refused .decisions ∙ if-yes _ _ blanks;
+          delays = refused .delays ∙ if-yes _ _ blanks;
+          cells = refused .cells;
+        }
+
+    right-after : RightLengths before → RightLengths after
+    right-after right = elim (fine-or-refused checks) [
+      | inl fine ↦ left-when fine .lengths
+      | inr (r, e) ↦
+          let blank = blanked right r e in
+          record {
+            cells = ap length (blank .cells) ∙ right .cells;
+            decisions = ap length (blank .decisions) ∙ length-replicate {A = ℕ} 64 2;
+            delays = ap length (blank .delays) ∙ length-replicate {A = ℕ} 64 0;
+          }
+    ]
+
+    lengths-kept : SameLengths before after
+    lengths-kept = elim (fine-or-refused (buffersVerdict before)) [
+      | inl fine ↦
+          let right = right-of-fine before fine in
+          let later = right-after right in
+          record {
+            cells = later .cells ∙ sym (right .cells);
+            decisions = later .decisions ∙ sym (right .decisions);
+            delays = later .delays ∙ sym (right .delays);
+          }
+      | inr (r, e) ↦
+          let same = nothing-written (checks-wrong before w r e) in
+          record {
+            cells = ap (λ (b : Buffers). length (b .cells)) same;
+            decisions = ap (λ (b : Buffers). length (b .decisions)) same;
+            delays = ap (λ (b : Buffers). length (b .delays)) same;
+          }
+    ]
+
+    answered : Answered checks Passes m last before after a
+    answered =
+        record {
+          accepts = λ right ok. zero-of-fine (checks-right before w right ∙ fine-of ok);
+          accepted-only = λ e. let both = checks-fine before w (fine-of-zero e) in (both .0, passes (both .1));
+          accepted-place = λ e. h .place ∙ ap placeIn (fine-of-zero e);
+          refuses = refused-by;
+          blanks = λ right refused. elim (fine-or-refused checks) [
+            | inl fine ↦ absurd (refused (zero-of-fine fine))
+            | inr (r, e) ↦ blanked right r e
+          ];
+          untouched = λ wrong. elim (fine-or-refused (buffersVerdict before)) [
+            | inl fine ↦ absurd (wrong (right-of-fine before fine))
+            | inr (r, e) ↦
+                let ten = checks-wrong before w r e in
+                (h .number ∙ ap numberIn ten, nothing-written ten)
+          ];
+          others = λ e. left-when (fine-of-zero e) .others;
+          lengths = lengths-kept;
+          most = elim (fine-or-refused checks) [
+            | inl fine ↦ left-when fine .most
+            | inr (r, e) ↦ rw (refused-by r e .total) zero-le
+          ];
+        }
+
+-- ---- of a plan
+
+planned-left : (L : Line) (before after : Buffers) (a : Answer) → LineInRange L → RightLengths before
+    → Planned L before after a → Left (L .trains) (L .trains) before after a
+planned-left L before after a range right plan =
+    record {
+      lengths = record {
+        cells = plan .cells .long ∙ right .cells;
+        decisions = ap length (plan .decisions) ∙ shown-length _ (plan .policy);
+        delays = ap length (plan .delays) ∙ padded-length 64 _ _;
+      };
+      others = plan .cells .others;
+      most = le-trans (le-of-eq (ap answerTotal (plan .answer))) (total-le L range (plan .policy));
+    }
+
+pub plan-answered : (s : List ℕ) (before after : Buffers) (a : Answer) → Plan s before after a
+    → PlanAnswered s before after a
+unfolding planVerdict lineOf lineFrom
+plan-answered s before after a h =
+    answered (sheetVerdict s) _ before after a h (AcceptedSheet s) _ _ (accepted-of-fine s) (fine-of-accepted s)
+    (sheet-refusal-blanks s)
+    (λ right fine. planned-left (lineOf (numbersOf s)) before after a
+    (line-in-range (numbersOf s) (accepted-of-fine s fine .numbers)) right)
+
+-- ---- of a report
+
+settled-left : (L : Line) (i : ℕ) (before after : Buffers) (a : Answer) → LineInRange L → 1 ≤ i → i ≤ L .trains
+    → RightLengths before → Settled (bookOf L) i before after (answerTotal a)
+    → Left (L .trains) i before after a
+settled-left L i before after a range least most right settled =
+    record {
+      lengths = record {
+        cells = settled .cells .long ∙ right .cells;
+        decisions = ap length (settled .walked .decisions) ∙ shown-length _ _;
+        delays = ap length (settled .walked .delays) ∙ padded-length 64 _ _;
+      };
+      others = settled .cells .others;
+      most = le-trans (le-of-eq (settled .total))
+          (cell-le (bookOf L) (range-of-line L range) 1 (le-refl 1) i _ _ (settled .cells .worked) least 1 (le-refl 1)
+          (omega arith));
+    }
+
+module _ (s : List ℕ) (i v : ℕ) (before : Buffers) (t : List ℕ) (after : Buffers) (a : Answer) where
+  reported-left : RightLengths before → AcceptedSheet s → Reportable (trainsOf s) i v (before .cells)
+      → Reported s i v before t after a → Left (trainsOf s) i before after a
+  unfolding lineOf lineFrom
+  reported-left right ok report reported =
+      let same = replaced-numbers s t i v ok (report .least) (report .most) (reported .sheet) in
+      let range = replaced-accepted s t i v ok (report .least) (report .most) (reported .sheet) (report .delay) .numbers in
+      subst (λ (m : ℕ). Left m i before after a) (same .trains)
+      (settled-left (lineOf (numbersOf t)) i before after a (line-in-range (numbersOf t) range) (report .least)
+      (omega (arith, report .most, same .trains)) right (reported .settled))
+
+  pub report-answered : Report s i v before t after a → ReportAnswered s i v before t after a
+  unfolding reportVerdict
+  report-answered h =
+      let w = afterLengths s i v (before .cells) in
+      record {
+        answered = answered w _ before after a (h .outcome) _ _ _ (reports-of-fine s i v (before .cells))
+            (λ both. fine-of-reports s i v (before .cells) (both .0) (both .1)) (reports-blanks s i v (before .cells))
+            (λ right fine. let told = reports-of-fine s i v (before .cells) fine in
+            reported-left right (told .0) (told .1));
+        sheet = λ refused. elim (fine-or-refused (reportVerdict s i v before)) [
+          | inl fine ↦ absurd (refused (zero-of-fine w _ before after a (h .outcome) fine))
+          | inr (r, e) ↦ h .kept r e
+        ];
+        sheet-length = elim (fine-or-refused (reportVerdict s i v before)) [
+          | inl fine ↦ h .outcome .accepted fine .sheet .put .long
+          | inr (r, e) ↦ ap length (h .kept r e)
+        ];
+      }

@@ -1,0 +1,9 @@
+pub mod Answered
+pub mod Possible
+pub mod Demands
+pub mod Runs
+pub mod Printed
+pub mod Sheets
+pub mod Reports
+pub mod Useless
+pub mod Promises

@@ -1,0 +1,28 @@
+-- All promises of plan and report are kept.
+-- Assumes nothing.
+use Rattle.demands.specs.Promises.{Promises}
+use Rattle.demands.proofs.Demands.{demand-1, demand-2}
+use Rattle.demands.proofs.Runs.{demand-3}
+use Rattle.demands.proofs.Sheets.{answers-a, answers-b, answers-b13}
+use Rattle.demands.proofs.Reports.{answers-b7, answers-b8}
+use Rattle.demands.proofs.Useless.{refuses-all-breaks, same-decisions-break, all-keep-breaks}
+use Rattle.demands.proofs.Useless.{does-nothing-breaks, stays-blank-breaks, repeats-plan-breaks}
+
+pub promises : Promises
+promises =
+    record {
+      first-demand = demand-1;
+      second-demand = demand-2;
+      third-demand = demand-3;
+      sheet-a = answers-a;
+      sheet-b = answers-b;
+      sheet-b13 = answers-b13;
+      report-b7 = answers-b7;
+      report-b8 = answers-b8;
+      refuses-all = refuses-all-breaks;
+      same-decisions = same-decisions-break;
+      all-keep = all-keep-breaks;
+      does-nothing = does-nothing-breaks;
+      stays-blank = stays-blank-breaks;
+      repeats-plan = repeats-plan-breaks;
+    }

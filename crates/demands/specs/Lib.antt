@@ -1,0 +1,5 @@
+pub mod Demands
+pub mod Runs
+pub mod Sheets
+pub mod Useless
+pub mod Promises

@@ -1,0 +1,25 @@
+-- All that is promised of plan and report, in one record.
+-- Assumes nothing.
+use Rattle.demands.specs.Demands.{Demand1, Demand2}
+use Rattle.demands.specs.Runs.{Demand3}
+use Rattle.demands.specs.Sheets.{AnswersA, AnswersB, AnswersB13, AnswersB7, AnswersB8}
+use Rattle.demands.specs.Useless.{RefusesAllBreaks, SameDecisionsBreak, AllKeepBreaks, DoesNothingBreaks}
+use Rattle.demands.specs.Useless.{StaysBlankBreaks, RepeatsPlanBreaks}
+
+pub record Promises : Type 0 where
+  pub first-demand : Demand1
+  pub second-demand : Demand2
+  pub third-demand : Demand3
+  -- cases a, b4, b6, b7 and b8
+  pub sheet-a : AnswersA
+  pub sheet-b : AnswersB
+  pub sheet-b13 : AnswersB13
+  pub report-b7 : AnswersB7
+  pub report-b8 : AnswersB8
+  -- useless versions
+  pub refuses-all : RefusesAllBreaks
+  pub same-decisions : SameDecisionsBreak
+  pub all-keep : AllKeepBreaks
+  pub does-nothing : DoesNothingBreaks
+  pub stays-blank : StaysBlankBreaks
+  pub repeats-plan : RepeatsPlanBreaks
