@@ -1,9 +1,14 @@
-// Runs plan on records from a file descriptor and prints what it answers and leaves.
-// A record is a name ('N'), a sheet to plan whose lists are shown as sums ('P') or one whose lists
-// are shown in full ('L'); tests/plans.py gives their form.
+// Runs plan and report on records from a file descriptor and prints what they answer and leave.
+// A record is a name ('N'), a sheet to plan, its lists shown as sums ('P') or in full ('L'), or a
+// run of several steps on one sheet, the lists shown as sums ('R') or in full ('F').
+// tests/plans.py gives the form of the first three, tests/reports.py that of a run.
+mod kept;
+mod lengths;
 mod marks;
 mod plans;
 mod printed;
+mod runs;
+mod shown;
 
 use records::source;
 use records::source::byte;
@@ -14,6 +19,10 @@ const NAME: u32 = 78;
 const SUMS: u32 = 80;
 
 const LISTS: u32 = 76;
+
+const RUN_SUMS: u32 = 82;
+
+const RUN_LISTS: u32 = 70;
 
 // One record of a kind; false where there is none.
 fn record(from: i32, kind: u32) -> bool {
@@ -27,6 +36,14 @@ fn record(from: i32, kind: u32) -> bool {
     }
     if kind == LISTS {
         plans::record(from, true);
+        return true;
+    }
+    if kind == RUN_SUMS {
+        runs::record(from, false);
+        return true;
+    }
+    if kind == RUN_LISTS {
+        runs::record(from, true);
         return true;
     }
     false

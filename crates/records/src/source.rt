@@ -33,7 +33,14 @@ pub fn long(from: i32) -> u32 {
     ((first * 256 + second) * 256 + third) * 256 + fourth
 }
 
-// A list of such numbers.
+// A number of eight bytes.
+pub fn double(from: i32) -> u64 {
+    let high = long(from) as u64;
+    let low = long(from) as u64;
+    high * 4294967296 + low
+}
+
+// A list of numbers of four bytes.
 pub fn list(from: i32, numbers: &mut [u32]) {
     let mut k = 0;
     while k < numbers.len() {

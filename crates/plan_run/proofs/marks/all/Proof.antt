@@ -1,16 +1,16 @@
--- `marks::put` is safe and ends: the places left fall. Assumes nothing.
+-- `marks::all` is safe and ends: the places left fall. Assumes nothing.
 use borrow.Author.Needs.{needs}
 use mathlib.Core.Path.{_≡_}
 use Prim.Native.Nat.{_≤_, _-_}
 use lib.ListN.{length}
-use Rattle.plan_run.proofs.marks.put.Statement.{statement}
-use Rattle.plan_run.proofs.marks.put.Tie as tie
+use Rattle.plan_run.proofs.marks.all.Statement.{statement}
+use Rattle.plan_run.proofs.marks.all.Tie as tie
 
 abbrev Inv-loop : tie.InvT-loop
-Inv-loop cells₀ k₀ cells k = (k ≤ length cells₀) × (length cells ≡ length cells₀)
+Inv-loop cells₀ k₀ cells k = (k ≤ 4100) × (length cells ≡ 4100)
 
 abbrev μ-loop : tie.MeasureT-loop
-μ-loop cells₀ k₀ cells k = length cells₀ - k
+μ-loop cells₀ k₀ cells k = 4100 - k
 
 loop-holds : tie.Need-loop-holds Inv-loop μ-loop
 loop-holds c = search needs
@@ -21,8 +21,8 @@ mark-requires c κs = search needs
 mul-cells : tie.Need-mul-cells Inv-loop μ-loop
 mul-cells c = search needs
 
-slice-write-cells : tie.Need-slice-write-cells Inv-loop μ-loop
-slice-write-cells c = search needs
+array-write-cells : tie.Need-array-write-cells Inv-loop μ-loop
+array-write-cells c = search needs
 
 add-k : tie.Need-add-k Inv-loop μ-loop
 add-k c = search needs
@@ -33,14 +33,11 @@ loop-less c = search needs
 loop-again : tie.Need-loop-again Inv-loop μ-loop
 loop-again c = search needs
 
-same-length : tie.Need-same-length Inv-loop μ-loop
-same-length c = search needs
-
 returns : tie.Need-returns Inv-loop μ-loop
 returns c = search needs
 
-pub put-spec : {M : Type 1} → statement M
-put-spec =
+pub all-spec : {M : Type 1} → statement M
+all-spec =
     tie.close
     (tie.spec
     Inv-loop
@@ -48,9 +45,8 @@ put-spec =
     loop-holds
     mark-requires
     mul-cells
-    slice-write-cells
+    array-write-cells
     add-k
     loop-less
     loop-again
-    same-length
     returns)

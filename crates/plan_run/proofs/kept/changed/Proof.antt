@@ -1,19 +1,22 @@
--- `marks::changed` is safe and ends: it counts no more than the places passed, and the places left fall.
+-- `kept::changed` is safe and ends: it counts no more than the places passed, and the places left fall.
 -- Assumes nothing.
 use borrow.Author.Needs.{needs}
 use Prim.Native.Nat.{_≤_, _-_}
 use lib.ListN.{length}
-use Rattle.plan_run.proofs.marks.changed.Statement.{statement}
-use Rattle.plan_run.proofs.marks.changed.Tie as tie
+use Rattle.plan_run.proofs.kept.changed.Statement.{statement}
+use Rattle.plan_run.proofs.kept.changed.Tie as tie
 
 abbrev Inv-loop : tie.InvT-loop
-Inv-loop cells n₀ k₀ n k = (k ≤ length cells) × (n ≤ k)
+Inv-loop before cells n₀ k₀ n k = (k ≤ length cells) × (n ≤ k)
 
 abbrev μ-loop : tie.MeasureT-loop
-μ-loop cells n₀ k₀ n k = length cells - k
+μ-loop before cells n₀ k₀ n k = length cells - k
 
 loop-holds : tie.Need-loop-holds Inv-loop μ-loop
 loop-holds c = search needs
+
+at-requires : tie.Need-at-requires Inv-loop μ-loop
+at-requires c κs = search needs
 
 mul-differs : tie.Need-mul-differs Inv-loop μ-loop
 mul-differs c = search needs
@@ -46,6 +49,7 @@ changed-spec =
     Inv-loop
     μ-loop
     loop-holds
+    at-requires
     mul-differs
     shared-slice-read-differs
     differs-requires

@@ -1,0 +1,141 @@
+// Runs: one sheet and one set of working cells, kept over several steps. A step sets a cell ('C'),
+// plans ('P') or reports a delay ('D').
+use crate::kept;
+use crate::lengths;
+use crate::marks;
+use crate::printed;
+use crate::shown;
+use planner::Answer;
+use rail::Train;
+use records::parts;
+use records::source;
+use records::source::byte;
+use records::source::double;
+use records::source::long;
+use records::source::short;
+use records::sums;
+
+// The letter a step begins with.
+const CELL: u32 = 67;
+
+const PLAN: u32 = 80;
+
+const REPORT: u32 = 68;
+
+// What a step answered and left, in full or as sums.
+fn show(
+    sheet: &[u8],
+    a: Answer,
+    before: &[u64],
+    cells: &[u64],
+    decisions: &[u8],
+    delays: &[u32],
+    full: bool,
+) {
+    shown::answer(a);
+    if full {
+        shown::lists(sheet, a, cells, decisions, delays);
+        say::word(b"sheet");
+        printed::bytes(sheet);
+        shown::changes(before, cells);
+    } else {
+        shown::sums_of(cells, decisions, delays);
+        say::next(sums::bytes(sheet));
+        say::end();
+    }
+}
+
+// What a step asks for.
+enum Asked {
+    Plan,
+    Report(Train, u32),
+}
+
+// Says what is asked for, and asks for it.
+fn answer(
+    asked: Asked,
+    sheet: &mut [u8],
+    cells: &mut [u64],
+    decisions: &mut [u8],
+    delays: &mut [u32],
+) -> Answer {
+    match asked {
+        Asked::Plan => {
+            say::word(b"plan");
+            planner::plan(sheet, cells, decisions, delays)
+        }
+        Asked::Report(train, delay) => {
+            say::word(b"report");
+            planner::report(sheet, train, delay, cells, decisions, delays)
+        }
+    }
+}
+
+// A step that plans or reports, into decisions and delays that hold a pattern.
+fn ask(from: i32, asked: Asked, sheet: &mut [u8], cells: &mut [u64], full: bool) {
+    let n = lengths::next(from);
+    let before = kept::copy(cells);
+    let mut decisions = [7u8; 70];
+    let mut delays = [77777u32; 70];
+    let a = answer(
+        asked,
+        sheet,
+        parts::lent_longs(cells, n.cells),
+        parts::lent_bytes(&mut decisions, n.decisions),
+        parts::lent_numbers(&mut delays, n.delays),
+    );
+    show(
+        sheet,
+        a,
+        &before,
+        cells,
+        parts::bytes(&decisions, n.decisions),
+        parts::numbers(&delays, n.delays),
+        full,
+    );
+}
+
+// The train and the delay of a report.
+fn reported(from: i32) -> Asked {
+    let train = Train(long(from));
+    let delay = long(from);
+    Asked::Report(train, delay)
+}
+
+// A step that sets a cell; where there is no such place, it does nothing.
+fn put(from: i32, cells: &mut [u64]) {
+    let place = short(from);
+    let value = double(from);
+    if place < cells.len() {
+        cells[place] = value;
+    }
+}
+
+// One step of a kind.
+fn step(from: i32, kind: u32, sheet: &mut [u8], cells: &mut [u64], full: bool) {
+    if kind == CELL {
+        put(from, cells);
+    } else if kind == PLAN {
+        ask(from, Asked::Plan, sheet, cells, full);
+    } else if kind == REPORT {
+        ask(from, reported(from), sheet, cells, full);
+    }
+}
+
+// As many steps as the record has, one after the other on the same sheet and cells.
+fn steps(from: i32, sheet: &mut [u8], full: bool) {
+    let mut cells = marks::all();
+    let mut left = short(from);
+    while 0 < left {
+        step(from, byte(from), sheet, &mut cells, full);
+        left -= 1;
+    }
+}
+
+// A record: the sheet's length and the sheet, then the number of steps and the steps.
+pub fn record(from: i32, full: bool) {
+    let n = short(from);
+    let mut sheet = [0u8; 4000];
+    source::load(from, parts::lent_bytes(&mut sheet, n));
+    steps(from, parts::lent_bytes(&mut sheet, n), full);
+}
