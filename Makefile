@@ -6,7 +6,7 @@ help:
 	@echo 'make run       prove plan, run it on the cases of document 01 and show what it answers and stores'
 	@echo 'make test      the gate: prove everything from nothing, try the wrong versions, run the programs (5 minutes)'
 	@echo 'make vectors   compare the test inputs and the answers they must get with the independent readings of document 01'
-	@echo 'make wrong     tell how many test records each of 30 wrong rules of planning would change (python3, 40 s)'
+	@echo 'make wrong     tell how many test records each of 30 wrong rules of planning and 45 of reporting would change (python3, 90 s)'
 	@echo 'make format    lay out every source file'
 
 run:
@@ -23,9 +23,12 @@ vectors:
 	python3 tests/sheets.py --check
 	python3 tests/plan_cases.py --check
 	python3 tests/plans.py --check
+	python3 tests/report_cases.py --check
+	python3 tests/reports.py --check
 
 wrong:
 	python3 tests/plans.py --wrong
+	python3 tests/reports.py --wrong
 
 format:
 	rt fmt

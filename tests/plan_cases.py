@@ -41,7 +41,7 @@ def planned(name, data, total, decisions, delays, rows):
     return case(name, data, LENGTHS, right + ['changed %d' % (m * (m + 1) // 2)], found)
 
 
-def refused(name, data, number, place=0):
+def refused(name, data, number, place):
     """"Any other refused plan or report sets all 64 decision bytes to 2 and all delays to 0, and leaves
     sheet and cells unchanged.\""""
     right = ['plan %d %d 0' % (number, place), listed('decisions', [2] * 64), listed('delays', [0] * 64), 'changed 0']
@@ -94,24 +94,25 @@ def boundaries():
     ]
 
 
-def refusals():
+def refused_sheets():
+    """Name, sheet, number and place of each."""
     a = sheet(A)
     assert a == bytes.fromhex('02 02 80 28 0F 00 E0 01 80'), 'sheet A as document 01 prints it'
     return [
-        refused('empty', b'', 1),
-        refused('A, 2 bytes', a[:2], 1),
-        refused('A without its last byte', a[:-1], 1),
-        refused('A with another byte', a + b'\0', 4),
-        refused('A ending in 81', a[:-1] + b'\x81', 9),
-        refused('m 0', sheet(A, m=0), 2),
-        refused('m 65', sheet(A, m=65), 2),
-        refused('T 0', sheet(A, T=0), 3),
-        refused('T 1441', sheet(A, T=1441), 3),
-        refused('departure 2880', sheet(A, departures=[2880]), 5, 1),
-        refused('delay 1441', sheet(A, delays=[1441]), 6, 1),
-        refused('B, train 2 at 24', sheet(B, departures=[10, 24, 55]), 7, 2),
-        refused('passengers 10001', sheet(A, passengers=[10001]), 8, 1),
-        refused('B, field 6 10001', sheet(B, passengers=[4, 6, 5, 10, 2, 10001]), 8, 6),
+        ('empty', b'', 1, 0),
+        ('A, 2 bytes', a[:2], 1, 0),
+        ('A without its last byte', a[:-1], 1, 0),
+        ('A with another byte', a + b'\0', 4, 0),
+        ('A ending in 81', a[:-1] + b'\x81', 9, 0),
+        ('m 0', sheet(A, m=0), 2, 0),
+        ('m 65', sheet(A, m=65), 2, 0),
+        ('T 0', sheet(A, T=0), 3, 0),
+        ('T 1441', sheet(A, T=1441), 3, 0),
+        ('departure 2880', sheet(A, departures=[2880]), 5, 1),
+        ('delay 1441', sheet(A, delays=[1441]), 6, 1),
+        ('B, train 2 at 24', sheet(B, departures=[10, 24, 55]), 7, 2),
+        ('passengers 10001', sheet(A, passengers=[10001]), 8, 1),
+        ('B, field 6 10001', sheet(B, passengers=[4, 6, 5, 10, 2, 10001]), 8, 6),
     ]
 
 
@@ -138,7 +139,7 @@ def main(arguments):
     if arguments not in ([], ['--check']):
         print('usage: python3 tests/plan_cases.py [--check]', file=sys.stderr)
         return 2
-    made = by_hand() + boundaries() + refusals() + lengths()
+    made = by_hand() + boundaries() + [refused(*each) for each in refused_sheets()] + lengths()
     files = [('stdin', b''.join(data for data, _ in made)),
              ('stdout', ''.join(lines for _, lines in made).encode('ascii'))]
     wrong = compare_or_write('plan_cases', files, arguments == [], 'tests/plan_cases.py')

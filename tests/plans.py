@@ -277,24 +277,33 @@ def answer(sheet, lengths=LENGTHS):
 # What the program prints
 # ---------------------------------------------------------------------------
 
-def sum_line(found):
-    """Of a record 'P'."""
-    return 'plan %d %d %d' % found[:3] + ''.join(' %d' % (weighed(part) % 10 ** 18) for part in found[3:])
+def sum_line(found, name='plan'):
+    """Of a record 'P': the answer, then a sum for each list."""
+    return '%s %d %d %d' % ((name,) + found[:3]) + ''.join(' %d' % (weighed(part) % 10 ** 18) for part in found[3:])
 
 
 def listed(word, numbers):
     return ' '.join([word] + ['%d' % number for number in numbers])
 
 
-def list_lines(found, m):
-    """Of a record 'L'."""
-    decisions, delays, cells = found[3:]
-    lines = ['plan %d %d %d' % found[:3], listed('decisions', decisions), listed('delays', delays)]
+def answer_lines(found, m, name='plan'):
+    """The answer, decisions and delays; if accepted, the rows in use."""
+    decisions, delays, cells = found[3:6]
+    lines = ['%s %d %d %d' % ((name,) + found[:3]), listed('decisions', decisions), listed('delays', delays)]
     if found[0] == 0:
         for k in range(1, m + 1):
             lines.append(listed('row %d:' % k, cells[65 * (k - 1):64 * (k - 1) + m]))
-    changed = sum(1 for place, cell in enumerate(cells, 1) if cell != mark(place))
-    return lines + ['changed %d' % changed]
+    return lines
+
+
+def changed_line(before, after):
+    """How many cells are not as they were."""
+    return 'changed %d' % sum(1 for was, cell in zip(before, after) if cell != was)
+
+
+def list_lines(found, m):
+    """Of a record 'L'."""
+    return answer_lines(found, m) + [changed_line([mark(place) for place in range(1, 4101)], found[5])]
 
 
 # ---------------------------------------------------------------------------
