@@ -57,18 +57,26 @@ put-delay-requires c κs =
     let ok = passed (c .before .before) in
     delay-room _ _ _ (ok .1) (ok .2 .least) (ok .2 .most) (ok .2 .delay)
 
+-- from the new columns back to where the sheet was written, and to the answer
+abbrev put-of : tie.After-with-delay → tie.After-put-delay
+put-of c = c .before .before .before
+
+abbrev told-of : tie.After-put-delay → tie.After-answer2
+told-of c = c .before .before .before
+
 with-delay-requires : tie.Need-with-delay-requires
 with-delay-requires c κs =
-    let ok = passed (c .before .before .before .before .before) in
+    let ok = passed (told-of (c .before .before)) in
     (ok .2 .least, omega (arith, ok .2 .most, ok .1 .numbers .trains-most))
 
 -- the columns with the new delay are sound, and the later rows allow the work
 settle-numbers-requires : tie.Need-settle-numbers-requires
 settle-numbers-requires c κs =
-    let told = c .before .before .before .before .before .before .before .before .before in
+    let columns = c .before .before .before in
+    let told = told-of (put-of columns) in
     let checked = told .before .before .check-report .ensures in
     let answer = told .answer2 .given .1 in
-    let put = c .before .before .before .before .before .before .put-delay .ensures in
+    let put = put-of columns .put-delay .ensures in
     let ok = passed told in
     let report = ok .2 in
     let trains = taken-trains _ _ _ _ _ checked answer in (
@@ -77,7 +85,7 @@ settle-numbers-requires c κs =
         lengths = ok .0;
         later = rw trains (report .later);
       },
-      rw (c .before .before .before .with-delay .ensures)
+      rw (columns .with-delay .ensures)
           (sound-of-same _ _ _ (numbersOf _)
           (amended-lengths _ _ _ (taken-lengths _ _ _ _ _ checked answer))
           (amended-taken _ _ _ _ _ checked answer (ok .1) _ _ _ (report .least) (report .most) put)
@@ -128,15 +136,17 @@ same-length-8 c = search needs
 returns-2 : tie.Need-returns-2
 unfolding reportVerdict
 returns-2 c =
-    let put = c .before .before .before .before .before .before .before .before .before .before .before .before .before .put-delay .ensures in
-    let told = c .before .before .before .before .before .before .before .before .before .before .before .before .before .before .before .before in
+    let work = c .before .before .before .before .before .before in
+    let columns = work .before .before .before .before in
+    let put = put-of columns .put-delay .ensures in
+    let told = told-of (put-of columns) in
     let checked = told .before .before .check-report .ensures in
     let answer = told .answer2 .given .1 in
     let lent = lent-to (told .before .before) in
     let ok = passed told in
     let fine = taken-fine _ _ _ _ _ checked answer in
     let same = amended-taken _ _ _ _ _ checked answer (ok .1) _ _ _ (ok .2 .least) (ok .2 .most) put in
-    let settled = rw (c .before .before .before .before .before .before .before .before .before .before .with-delay .ensures) at (c .before .before .before .before .before .before .settle-numbers .ensures) in
+    let settled = rw (columns .with-delay .ensures) at (work .settle-numbers .ensures) in
     record {
       outcome = outcome-accepted _ _ lent _ _ (sym fine) refl
           (record {
