@@ -3,17 +3,17 @@
 .PHONY: help run test vectors wrong format
 
 help:
-	@echo 'make run       prove plan, run it on the cases of document 01 and show what it answers and stores'
-	@echo 'make test      the gate: prove everything from nothing, try the wrong versions, run the programs (5 minutes)'
+	@echo 'make run       prove plan and report, run them on the cases of document 01 and show what they answer and store'
+	@echo 'make test      the gate: prove everything from nothing, try the wrong versions, run the programs (7 minutes)'
 	@echo 'make vectors   compare the test inputs and the answers they must get with the independent readings of document 01'
 	@echo 'make wrong     tell how many test records each of 30 wrong rules of planning and 45 of reporting would change (python3, 90 s)'
 	@echo 'make format    lay out every source file'
 
 run:
 	@command -v rt > /dev/null || { echo 'rt, the command of the Rattle toolchain, is not on the PATH' >&2; exit 1; }
-	@echo 'proving what plan rests on (two or three minutes the first time) ..' >&2
-	@rt check plan_cases > /dev/null || { rt check plan_cases; exit 1; }
-	@cat target/log/plan_cases.stdout
+	@echo 'proving what plan and report rest on (two or three minutes the first time) ..' >&2
+	@rt check plan_cases report_cases > /dev/null || { rt check plan_cases report_cases; exit 1; }
+	@cat target/log/plan_cases.stdout target/log/report_cases.stdout
 
 test:
 	@bash .ci/run

@@ -15,7 +15,7 @@ use Rattle.sheet.specs.Accepted.{Lengths, AcceptedSheet, SameNumbers, withDelay
 use Rattle.sheet.proofs.Lengths.{layout, bytes-bits}
 use Rattle.decoder.specs.declared.Columns.{Columns}
 use Rattle.decoder.specs.Decode.{listsOf}
-use Rattle.amend.specs.Amended.{withDelayIn, DelayRoom}
+use Rattle.amend.specs.Steps.{withDelayIn, DelayRoom}
 
 module _ (c : Columns) (i v : ℕ) (long : Lengths 64 2080 (listsOf c)) where
   pub amended-lengths : Lengths 64 2080 (listsOf (withDelayIn c i v))

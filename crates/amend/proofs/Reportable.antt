@@ -7,7 +7,7 @@ use Prim.Native.Nat.{ℕ, _≤_, _<_}
 use native.Mathlib.Omega.{arith}
 use Rattle.rail.specs.declared.Refusal.{Refusal}
 use Rattle.rail.specs.declared.Verdict.the-variants.{Fine, Refused}
-use Rattle.rail.specs.Refusal.{blanksOf}
+use Rattle.rail.specs.Refusal.{numberOf, blanksOf}
 use Rattle.rail.proofs.Checks.{then-fine, fine-then, not-below, fine-not-below, first-fine, fine-first}
 use Rattle.rail.proofs.Refusing.{only-fine, only-below, only-then, only-first}
 use Rattle.line.specs.Ranges.{limit}
@@ -49,6 +49,13 @@ module _ (m i v : ℕ) (cells : List ℕ) where
       (fine-then (fine-not-below _ _ _ (h .most))
       (fine-then (fine-not-below _ _ _ (h .delay))
       (fine-of-later (h .later))))
+
+  -- what the later rows are refused for is 12
+  pub later-refusal : (r : Refusal) → laterVerdict m cells i ≡ Refused r → numberOf r ≡ 12
+  unfolding laterVerdict rowVerdict cellVerdict
+  later-refusal =
+      let P : Refusal → Type 0 = λ r. numberOf r ≡ 12 in
+      only-first P _ _ _ (λ k. only-first P _ _ _ (λ l. only-then P _ _ (only-below P _ _ _ refl) (only-fine P)))
 
   abbrev Blanks : Refusal → Type 0
   Blanks r = blanksOf r ≡ true

@@ -5,7 +5,7 @@ ghost use Prim.Native.Nat.{_≤_};
 ghost use lib.ListN.{length};
 ghost use Rattle.sheet.specs.Accepted.{DelayReplaced};
 ghost use Rattle.amend.specs.Reported.{rowVerdict, laterVerdict, reportedVerdict};
-ghost use Rattle.amend.specs.Amended.{withDelayIn, DelayRoom};
+ghost use Rattle.amend.specs.Steps.{withDelayIn, DelayRoom};
 use bits::put;
 use cells::place::cell_at;
 use decoder::Columns;
@@ -72,8 +72,8 @@ pub fn put_delay(sheet: &mut [u8], train: Train, delay: u32)
     ensures { λ _. ⌜ DelayReplaced (now (sheet .entry)) (train .0) delay (now (sheet .exit)) ⌝ }
 {
     let column = Column::delays();
-    let at = column.first + column.step * (train.0 as usize - 1);
-    put(sheet, at, column.width, delay);
+    let k = train.index();
+    put(sheet, column.first + column.step * k, column.width, delay);
 }
 
 // The columns with the train's source delay replaced.

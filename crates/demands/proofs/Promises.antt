@@ -6,7 +6,7 @@ use Rattle.demands.proofs.Runs.{demand-3}
 use Rattle.demands.proofs.Sheets.{answers-a, answers-b, answers-b13}
 use Rattle.demands.proofs.Reports.{answers-b7, answers-b8}
 use Rattle.demands.proofs.Useless.{refuses-all-breaks, same-decisions-break, all-keep-breaks}
-use Rattle.demands.proofs.Useless.{does-nothing-breaks, stays-blank-breaks, repeats-plan-breaks}
+use Rattle.demands.proofs.Useless.{does-nothing-breaks, stays-blank-breaks, repeats-plan-breaks, writes-early-breaks}
 
 pub promises : Promises
 promises =
@@ -25,4 +25,5 @@ promises =
       does-nothing = does-nothing-breaks;
       stays-blank = stays-blank-breaks;
       repeats-plan = repeats-plan-breaks;
+      writes-early = writes-early-breaks;
     }

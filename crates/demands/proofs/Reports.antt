@@ -64,7 +64,7 @@ unfolding ifBelow runOf listed sum_from_to_ lineFrom arrival excess departure le
     keepCost goCost cellBy choice begins policyBy decide pairRows printedCells
 printed-b8 = record { rule = refl; corner = refl; decisions = refl; delays = refl }
 
-trains-b : trainsOf sheetB ≡ 3
+pub trains-b : trainsOf sheetB ≡ 3
 unfolding bitAt fieldOf
 trains-b = refl
 

@@ -1,7 +1,8 @@
 -- No useless version keeps the contracts: on sheet B the answer is 176, and decision byte 2 is 0; with T 13 it is 1, and
 -- so it is after the report of b7, which answers 68.
 -- Assumes nothing.
-use mathlib.Core.Path.{_≡_, sym, ap, _∙_}
+use mathlib.Core.Path.{_≡_, refl, sym, ap, _∙_}
+use mathlib.Core.Logic.{inl, inr}
 use mathlib.Core.List.{List}
 use Prim.Native.Nat.{ℕ}
 use native.Mathlib.Omega.{arith}
@@ -10,12 +11,22 @@ use Rattle.lists.proofs.Choice.{below-yes}
 use Rattle.lists.proofs.Order.{zero-not-one}
 use Rattle.lists.proofs.Run.{padded-nth}
 use Rattle.cells.specs.Shown.{shown}
-use Rattle.planner.specs.Outcome.{answerTotal}
-use Rattle.demands.specs.Sheets.{decisionsB, keepKeep}
+use Rattle.rail.specs.Verdict.{numberIn}
+use Rattle.rail.proofs.Checks.{fine-or-refused, then-pass, miss}
+use Rattle.sheet.specs.Format.{trainsOf}
+use Rattle.cells.specs.Place.{tableOf}
+use Rattle.cells.proofs.Places.{table-in}
+use Rattle.amend.specs.Reported.{laterVerdict, reportedVerdict}
+use Rattle.amend.proofs.Reportable.{later-refusal}
+use Rattle.planner.specs.Outcome.{answerNumber, answerTotal}
+use Rattle.planner.specs.Report.{reportVerdict}
+use Rattle.planner.proofs.Refusals.{checks-right, afterLengths}
+use Rattle.demands.specs.Sheets.{sheetB, decisionsB, keepKeep}
 use Rattle.demands.specs.Useless.{RefusesAllBreaks, SameDecisionsBreak, AllKeepBreaks, DoesNothingBreaks}
-use Rattle.demands.specs.Useless.{StaysBlankBreaks, RepeatsPlanBreaks}
-use Rattle.demands.proofs.Sheets.{answers-b, answers-b13}
-use Rattle.demands.proofs.Reports.{answers-b7}
+use Rattle.demands.specs.Useless.{StaysBlankBreaks, RepeatsPlanBreaks, WritesEarlyBreaks}
+use Rattle.demands.proofs.Sheets.{sheet-b-accepted, answers-b, answers-b13}
+use Rattle.demands.proofs.Reports.{trains-b, answers-b7}
+use Rattle.demands.proofs.Answered.{report-answered}
 
 -- byte 2 of 64, the first three of which are given
 byte-two : (bytes ds : List ℕ) → bytes ≡ padded 64 3 (nth ds) → nth bytes 2 ≡ nth ds 2
@@ -66,3 +77,32 @@ repeats-plan-breaks after4 a4 t before after a h =
           absurd (omega (arith, nine, five, ap (λ (l : List ℕ). nth l 1) same)),
       λ same. absurd (omega (arith, ap answerTotal (sym (new .answer) ∙ same ∙ old .answer))),
     )
+
+-- the checks before 12 pass, and 12 does not
+pub writes-early-breaks : WritesEarlyBreaks
+unfolding reportVerdict reportedVerdict tableOf
+writes-early-breaks before after t a right over h =
+    let told = report-answered sheetB 1 5 before t after a h in
+    let later = laterVerdict (trainsOf sheetB) (before .cells) 1 in
+    let asked : reportVerdict sheetB 1 5 before ≡ later
+    = checks-right before (afterLengths sheetB 1 5 (before .cells)) right
+    ∙ sym (then-pass _ _ _ sheet-b-accepted
+    (miss _ _ _ _ _ (omega arith)
+    (miss _ _ _ _ _ (omega (arith, trains-b))
+    (miss _ _ _ _ _ (omega arith) refl)))) in
+    let refused : ¬ (answerNumber a ≡ 0) = λ zero.
+    let within = told .answered .accepted-only zero .1 .1 .later 3 3 (omega arith) (omega arith)
+    (omega (arith, trains-b)) in
+    absurd (omega (
+      arith,
+      over,
+      sym (table-in 3 (before .cells) 3 3 (omega arith)),
+      rw trains-b at within,
+    )) in
+    elim (fine-or-refused later) [
+      | inl fine ↦ absurd (refused (h .outcome .number ∙ ap numberIn (asked ∙ fine)))
+      | inr (r, e) ↦ (
+        h .outcome .number ∙ ap numberIn (asked ∙ e) ∙ later-refusal _ 1 5 (before .cells) r e,
+        told .sheet refused,
+      )
+    ]

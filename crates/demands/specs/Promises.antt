@@ -4,7 +4,7 @@ use Rattle.demands.specs.Demands.{Demand1, Demand2}
 use Rattle.demands.specs.Runs.{Demand3}
 use Rattle.demands.specs.Sheets.{AnswersA, AnswersB, AnswersB13, AnswersB7, AnswersB8}
 use Rattle.demands.specs.Useless.{RefusesAllBreaks, SameDecisionsBreak, AllKeepBreaks, DoesNothingBreaks}
-use Rattle.demands.specs.Useless.{StaysBlankBreaks, RepeatsPlanBreaks}
+use Rattle.demands.specs.Useless.{StaysBlankBreaks, RepeatsPlanBreaks, WritesEarlyBreaks}
 
 pub record Promises : Type 0 where
   pub first-demand : Demand1
@@ -23,3 +23,4 @@ pub record Promises : Type 0 where
   pub does-nothing : DoesNothingBreaks
   pub stays-blank : StaysBlankBreaks
   pub repeats-plan : RepeatsPlanBreaks
+  pub writes-early : WritesEarlyBreaks

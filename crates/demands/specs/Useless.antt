@@ -7,19 +7,25 @@
 --   StaysBlankBreaks     nor do blank ones
 --   RepeatsPlanBreaks    one that plans honestly and then merely repeats its plan at each report: after b4 the report
 --                        of b7 leaves other decisions, other delays and another total than the plan
+--   WritesEarlyBreaks    one that writes the sheet before it tests 12: with a later cell over the limit the report of b7
+--                        is 12 and leaves sheet B
 -- Assumes nothing.
-use Prim.Native.Nat.{ℕ}
+use Prim.Native.Nat.{ℕ, _<_}
 use mathlib.Core.Path.{_≡_}
 use mathlib.Core.List.{List}
-use lib.ListN.{replicate}
+use lib.ListN.{getD, replicate}
 use Rattle.lists.specs.Run.{nth, padded}
 use Rattle.rail.specs.declared.Refusal.{Refusal}
 use Rattle.line.specs.Policy.{Keep}
+use Rattle.line.specs.Ranges.{limit}
+use Rattle.cells.specs.Place.{place}
 use Rattle.cells.specs.Shown.{shown}
 use Rattle.planner.specs.declared.Answer.{Answer}
 use Rattle.planner.specs.declared.Answer.the-variants.{Refused as AnswerRefused}
 use Rattle.settle.specs.Buffers.{Buffers, RightLengths}
+use Rattle.planner.specs.Outcome.{answerNumber}
 use Rattle.planner.specs.Plan.{Plan}
+use Rattle.planner.specs.Report.{Report}
 use Rattle.demands.specs.Sheets.{sheetB, sheetB13, decisionsB, ReportAfterB4}
 
 abbrev pub RefusesAllBreaks : Type 0
@@ -65,3 +71,11 @@ RepeatsPlanBreaks =
     (after4 : Buffers) (a4 : Answer) (t : List ℕ) (before after : Buffers) (a : Answer)
     → ReportAfterB4 after4 a4 t before after a
     → ¬ (after .decisions ≡ after4 .decisions) × ¬ (after .delays ≡ after4 .delays) × ¬ (a ≡ a4)
+
+abbrev pub WritesEarlyBreaks : Type 0
+WritesEarlyBreaks =
+    (before after : Buffers) (t : List ℕ) (a : Answer)
+    → RightLengths before
+    → limit < getD (before .cells) (place 3 3 3) 0
+    → Report sheetB 1 5 before t after a
+    → (answerNumber a ≡ 12) × (t ≡ sheetB)

@@ -29,12 +29,13 @@ use Rattle.decoder.specs.Decode.{listsOf, columnsOf, Decoding}
 use Rattle.decoder.proofs.Answers.{accepted-fine}
 use Rattle.decoder.proofs.Outcome.{decoding-columns}
 use Rattle.decoder.proofs.Held.{columns-lengths, columns-same}
-use Rattle.amend.specs.Amended.{withDelayIn}
+use Rattle.amend.specs.Steps.{withDelayIn}
 use Rattle.amend.proofs.Amended.{amended-lengths, amended-same}
 use Rattle.cells.specs.Place.{tableOf}
 use Rattle.settle.specs.LineOf.{lineOf}
 use Rattle.settle.specs.Buffers.{Buffers, RightLengths}
-use Rattle.settle.specs.Settled.{Settled, Sound}
+use Rattle.settle.specs.Settled.{Settled}
+use Rattle.settle.specs.Steps.{Sound}
 use Rattle.settle.proofs.Lines.{lines-of-same}
 use Rattle.settle.proofs.Settles.{settled-alike}
 use Rattle.planner.specs.declared.Answer.{Answer}

@@ -23,7 +23,7 @@ use Rattle.sheet.proofs.Lengths.{pairs-le}
 use Rattle.cells.specs.Given.{leavingIn, boardedIn, aboardIn, bookIn, SumsGiven, Given}
 use Rattle.cells.specs.Summed.{pairIn, Fields, Summed}
 use Rattle.settle.specs.LineOf.{lineOf}
-use Rattle.settle.specs.Settled.{Sound, SlackGiven, Slacks}
+use Rattle.settle.specs.Steps.{Sound, SlackGiven, Slacks}
 use Rattle.settle.proofs.Lines.{line-in-range}
 
 module _ (m T : ℕ) (L : Lists) (sound : Sound m T L) where

@@ -1,3 +1,4 @@
 pub mod LineOf
 pub mod Buffers
 pub mod Settled
+pub mod Steps

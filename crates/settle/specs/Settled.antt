@@ -1,46 +1,16 @@
--- What the work on accepted numbers leaves, in a plan and in a report: rows 1 to t worked anew, decisions by comparing
--- the two choices in the cells, delays by following them, the total cell (1, 1). Document 01, "Four operations".
---   Settled B t before after n   that, n being the total
---   Workable m t b               the later rows allow it
---   Sound m T L                  lists as they come of a sheet taken apart, their numbers in range
---   SlackGiven, Slacks           what taking the slacks needs and leaves
+-- What the work on accepted numbers leaves, in a plan and in a report. Document 01, "Four operations", report: rows 1 to
+-- that train are worked anew from the later rows as they stand; decisions follow by comparing the two choices in the
+-- cells, and delays by following them; the total is cell (1, 1). In a plan that train is the last.
+--   Settled B t before after n   that, for rows 1 to t of the book B, n being the total
 -- Assumes nothing.
-use Prim.Native.Nat.{ℕ, _+_, _-_, _≤_, _<_}
+use Prim.Native.Nat.{ℕ}
 use mathlib.Core.Path.{_≡_}
-use mathlib.Core.List.{List}
-use lib.ListN.{length}
-use Rattle.lists.specs.Run.{nth}
 use Rattle.line.specs.Cells.{Book}
-use Rattle.line.specs.Ranges.{limit}
 use Rattle.cells.specs.Place.{tableOf, RowsWorked}
 use Rattle.walk.specs.Walked.{Walked}
-use Rattle.sheet.specs.Numbers.{Lists, numbersIn}
-use Rattle.sheet.specs.Accepted.{Lengths, InRange}
-use Rattle.settle.specs.Buffers.{Buffers, RightLengths}
+use Rattle.settle.specs.Buffers.{Buffers}
 
 pub record Settled (B : Book) (t : ℕ) (before after : Buffers) (n : ℕ) : Type 0 where
   pub cells : RowsWorked B t (before .cells) (after .cells)
   pub walked : Walked B (tableOf (B .trains) (after .cells)) (after .decisions) (after .delays)
   pub total : n ≡ tableOf (B .trains) (after .cells) 1 1
-
--- the rows of trains 1 to t can be worked: every cell in use of the later rows is at most the limit
-pub record Workable (m t : ℕ) (b : Buffers) : Type 0 where
-  pub last : t ≤ m
-  pub lengths : RightLengths b
-  pub later : (k l : ℕ) → t < k → k ≤ l → l ≤ m → tableOf m (b .cells) k l ≤ limit
-
-pub record Sound (m T : ℕ) (L : Lists) : Type 0 where
-  pub lengths : Lengths 64 2080 L
-  pub range : InRange (numbersIn m T L)
-
--- the slack at station i can be taken: train i departs when its feeder is planned to arrive or later
-pub record SlackGiven (i : ℕ) (departures driving : List ℕ) : Type 0 where
-  pub least : 2 ≤ i
-  pub room : i ≤ length departures
-  pub feeder : i ≤ length driving
-  pub enough : nth departures (i - 1) + nth driving (i - 1) ≤ nth departures i
-
--- by station from 2
-pub record Slacks (m : ℕ) (departures driving slack : List ℕ) : Type 0 where
-  pub long : length slack ≡ 64
-  pub held : (i : ℕ) → 2 ≤ i → i ≤ m → nth slack i ≡ nth departures i - nth departures (i - 1) - nth driving (i - 1)

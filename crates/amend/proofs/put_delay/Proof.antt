@@ -8,31 +8,28 @@ use Rattle.amend.proofs.put_delay.Tie as tie
 delays-requires : tie.Need-delays-requires
 delays-requires c κs = search needs
 
-cast-at : tie.Need-cast-at
-cast-at c = search needs
+index-requires : tie.Need-index-requires
+index-requires c κs = search needs
 
-sub-at : tie.Need-sub-at
-sub-at c = search needs
+mul-put : tie.Need-mul-put
+mul-put c =
+    let at = c .before .before in
+    rw (at .before .delays .ensures) (omega (arith, at .index .ensures, at .before .before .before .pre .most))
 
-mul-at : tie.Need-mul-at
-mul-at c =
-    let start = c .before .before .before .before in
-    rw (c .before .before .delays .ensures) (omega (arith, start .pre .most))
-
-add-at : tie.Need-add-at
-add-at c =
-    let start = c .before .before .before .before .before in
-    rw (c .before .before .before .delays .ensures) (omega (arith, start .pre .most))
+add-put : tie.Need-add-put
+add-put c =
+    let at = c .before .before .before in
+    rw (at .before .delays .ensures) (omega (arith, at .index .ensures, at .before .before .before .pre .most))
 
 put-requires : tie.Need-put-requires
 put-requires c κs =
-    let start = c .before .before .before .before .before .before in
-    let room = start .pre in
-    rw (c .before .before .before .before .delays .ensures) (
+    let at = c .before .before .before in
+    let room = at .before .before .before .pre in
+    rw (at .before .delays .ensures) (
       record {
-        inside = omega (arith, room .least, room .within);
+        inside = omega (arith, at .index .ensures, room .least, room .within);
         narrow = omega arith;
-        near = omega (arith, room .most);
+        near = omega (arith, at .index .ensures, room .most);
       },
       omega (arith, room .small),
     )
@@ -43,12 +40,20 @@ same-length c = search needs
 returns : tie.Need-returns
 returns c =
     let called = c .before .before in
+    let at = called .before .before .before .before in
     record {
       bytes = λ i. c .slice-known2 .given i .fits;
-      put = rw (called .before .before .before .before .before .delays .ensures) at (called .put .ensures);
+      put = rw (at .before .delays .ensures, at .index .ensures) at (called .put .ensures);
     }
 
 pub put-delay-spec : {M : Type 1} → statement M
 put-delay-spec =
     tie.close
-    (tie.spec delays-requires cast-at sub-at mul-at add-at put-requires same-length returns)
+    (tie.spec
+    delays-requires
+    index-requires
+    mul-put
+    add-put
+    put-requires
+    same-length
+    returns)

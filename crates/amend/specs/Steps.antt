@@ -1,5 +1,5 @@
--- The new delay among the columns of a sheet, and the room that its field needs. Document 01, "Four operations",
--- report: that field of the sheet is replaced.
+-- What the steps of a report need and leave, beside its checks: the new delay in the sheet and among its columns. What
+-- the sheet is then is DelayReplaced (sheet/specs/Accepted).
 --   withDelayIn c i v   the columns c with the source delay of train i replaced by v
 --   DelayRoom s i v     the field of train i's source delay lies in the sheet s, and v fits it
 -- Assumes nothing.
