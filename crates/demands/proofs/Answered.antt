@@ -1,7 +1,7 @@
 -- Demand 1 of one call: what follows from an outcome of checks that begin with the lengths of the buffers, once for plan
 -- and report; and what an accepted plan and an accepted report leave.
 -- Assumes nothing.
-use mathlib.Core.Path.{_≡_, refl, sym, ap, subst, _∙_}
+use mathlib.Core.Path.{_≡_, sym, ap, subst, _∙_}
 use mathlib.Core.Bool.{true}
 use mathlib.Core.List.{List}
 use mathlib.Core.Logic.{inl, inr}

@@ -15,7 +15,7 @@ use Rattle.lists.proofs.Run.{listed-length, listed-at}
 use Rattle.bits.specs.Field.{Bytes}
 use Rattle.bits.proofs.Puts.{puttable}
 use Rattle.rail.specs.declared.Refusal.{Refusal}
-use Rattle.rail.specs.declared.Verdict.the-variants.{Fine, Refused}
+use Rattle.rail.specs.declared.Verdict.the-variants.{Fine}
 use Rattle.rail.specs.Refusal.{blanksOf}
 use Rattle.rail.proofs.Checks.{refused-not-fine, fine-or-refused}
 use Rattle.line.specs.Line.{lineFrom}

@@ -4,10 +4,10 @@
 use mathlib.Core.Path.{_≡_, refl, sym, ap, subst, _∙_}
 use mathlib.Core.List.{List}
 use mathlib.Core.Logic.{inl, inr}
-use Prim.Native.Nat.{ℕ, _+_, _≤_, _<_}
+use Prim.Native.Nat.{ℕ, _+_, _≤_}
 use native.Mathlib.Nat.{le-trans}
 use native.Mathlib.Omega.{arith}
-use lib.ListN.{length, getD}
+use lib.ListN.{getD}
 use Rattle.rail.specs.declared.Refusal.{Refusal}
 use Rattle.rail.specs.declared.Verdict.{Verdict}
 use Rattle.rail.specs.declared.Verdict.the-variants.{Fine, Refused}
@@ -28,7 +28,7 @@ use Rattle.sheet.specs.Accepted.{AcceptedSheet}
 use Rattle.sheet.proofs.Facts.{fine-of-accepted}
 use Rattle.sheet.proofs.Meaning.{same-sym}
 use Rattle.sheet.proofs.Amend.{replaced-numbers, replaced-accepted}
-use Rattle.cells.specs.Place.{place, tableOf, InUse}
+use Rattle.cells.specs.Place.{tableOf, InUse}
 use Rattle.cells.proofs.Places.{table-in}
 use Rattle.amend.specs.Reported.{reportedVerdict, Reportable}
 use Rattle.amend.proofs.Reportable.{fine-of-later}

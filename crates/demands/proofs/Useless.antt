@@ -4,22 +4,27 @@
 use mathlib.Core.Path.{_≡_, refl, sym, ap, _∙_}
 use mathlib.Core.Logic.{inl, inr}
 use mathlib.Core.List.{List}
-use Prim.Native.Nat.{ℕ}
+use Prim.Native.Nat.{ℕ, _<_}
 use native.Mathlib.Omega.{arith}
+use lib.ListN.{getD}
 use Rattle.lists.specs.Run.{nth, padded}
 use Rattle.lists.proofs.Choice.{below-yes}
 use Rattle.lists.proofs.Order.{zero-not-one}
 use Rattle.lists.proofs.Run.{padded-nth}
-use Rattle.cells.specs.Shown.{shown}
+use Rattle.rail.specs.declared.Verdict.{Verdict}
 use Rattle.rail.specs.Verdict.{numberIn}
 use Rattle.rail.proofs.Checks.{fine-or-refused, then-pass, miss}
 use Rattle.sheet.specs.Format.{trainsOf}
-use Rattle.cells.specs.Place.{tableOf}
+use Rattle.line.specs.Ranges.{limit}
+use Rattle.cells.specs.Place.{place}
+use Rattle.cells.specs.Shown.{shown}
 use Rattle.cells.proofs.Places.{table-in}
 use Rattle.amend.specs.Reported.{laterVerdict, reportedVerdict}
 use Rattle.amend.proofs.Reportable.{later-refusal}
+use Rattle.settle.specs.Buffers.{Buffers, RightLengths}
+use Rattle.planner.specs.declared.Answer.{Answer}
 use Rattle.planner.specs.Outcome.{answerNumber, answerTotal}
-use Rattle.planner.specs.Report.{reportVerdict}
+use Rattle.planner.specs.Report.{reportVerdict, Report}
 use Rattle.planner.proofs.Refusals.{checks-right, afterLengths}
 use Rattle.demands.specs.Sheets.{sheetB, decisionsB, keepKeep}
 use Rattle.demands.specs.Useless.{RefusesAllBreaks, SameDecisionsBreak, AllKeepBreaks, DoesNothingBreaks}
@@ -78,31 +83,37 @@ repeats-plan-breaks after4 a4 t before after a h =
       λ same. absurd (omega (arith, ap answerTotal (sym (new .answer) ∙ same ∙ old .answer))),
     )
 
--- the checks before 12 pass, and 12 does not
+module _ (before after : Buffers) (t : List ℕ) (a : Answer) (right : RightLengths before)
+    (over : limit < getD (before .cells) (place 3 3 3) 0) (h : Report sheetB 1 5 before t after a) where
+  abbrev later : Verdict
+  later = laterVerdict (trainsOf sheetB) (before .cells) 1
+
+  -- the checks before 12 pass
+  twelve-decides : reportVerdict sheetB 1 5 before ≡ later
+  unfolding reportVerdict reportedVerdict
+  twelve-decides =
+      checks-right before (afterLengths sheetB 1 5 (before .cells)) right
+      ∙ sym (then-pass _ _ _ sheet-b-accepted
+      (miss _ _ _ _ _ (omega arith)
+      (miss _ _ _ _ _ (omega (arith, trains-b))
+      (miss _ _ _ _ _ (omega arith) refl))))
+
+  -- and 12 does not
+  not-accepted : ¬ (answerNumber a ≡ 0)
+  not-accepted zero =
+      let report = report-answered sheetB 1 5 before t after a h .answered .accepted-only zero .1 .1 in
+      let within = report .later 3 3 (omega arith) (omega arith) (omega (arith, trains-b)) in
+      let here = table-in 3 (before .cells) 3 3 (omega arith) in
+      absurd (omega (arith, over, here, rw trains-b at within))
+
+  is-twelve : answerNumber a ≡ 12
+  is-twelve = elim (fine-or-refused later) [
+    | inl fine ↦ absurd (not-accepted (h .outcome .number ∙ ap numberIn (twelve-decides ∙ fine)))
+    | inr (r, e) ↦ h .outcome .number ∙ ap numberIn (twelve-decides ∙ e) ∙ later-refusal _ 1 5 (before .cells) r e
+  ]
+
 pub writes-early-breaks : WritesEarlyBreaks
-unfolding reportVerdict reportedVerdict tableOf
-writes-early-breaks before after t a right over h =
-    let told = report-answered sheetB 1 5 before t after a h in
-    let later = laterVerdict (trainsOf sheetB) (before .cells) 1 in
-    let asked : reportVerdict sheetB 1 5 before ≡ later
-    = checks-right before (afterLengths sheetB 1 5 (before .cells)) right
-    ∙ sym (then-pass _ _ _ sheet-b-accepted
-    (miss _ _ _ _ _ (omega arith)
-    (miss _ _ _ _ _ (omega (arith, trains-b))
-    (miss _ _ _ _ _ (omega arith) refl)))) in
-    let refused : ¬ (answerNumber a ≡ 0) = λ zero.
-    let within = told .answered .accepted-only zero .1 .1 .later 3 3 (omega arith) (omega arith)
-    (omega (arith, trains-b)) in
-    absurd (omega (
-      arith,
-      over,
-      sym (table-in 3 (before .cells) 3 3 (omega arith)),
-      rw trains-b at within,
-    )) in
-    elim (fine-or-refused later) [
-      | inl fine ↦ absurd (refused (h .outcome .number ∙ ap numberIn (asked ∙ fine)))
-      | inr (r, e) ↦ (
-        h .outcome .number ∙ ap numberIn (asked ∙ e) ∙ later-refusal _ 1 5 (before .cells) r e,
-        told .sheet refused,
-      )
-    ]
+writes-early-breaks before after t a right over h = (
+  is-twelve before after t a right over h,
+  report-answered sheetB 1 5 before t after a h .sheet (not-accepted before after t a right over h),
+)

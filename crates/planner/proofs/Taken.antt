@@ -22,7 +22,7 @@ use Rattle.sheet.specs.Format.{trainsOf, periodOf, bytesOf}
 use Rattle.sheet.specs.Numbers.{Numbers, Lists, numbersOf, numbersIn}
 use Rattle.sheet.specs.Accepted.{Lengths, InRange, AcceptedSheet, SameNumbers, withDelay, DelayReplaced}
 use Rattle.sheet.proofs.Meaning.{in-range-same, same-both}
-use Rattle.sheet.proofs.Amend.{replaced-numbers, replaced-accepted}
+use Rattle.sheet.proofs.Amend.{replaced-numbers}
 use Rattle.decoder.specs.declared.Reading.the-variants.{Accepted as ReadAccepted}
 use Rattle.decoder.specs.declared.Decoded.{Decoded}
 use Rattle.decoder.specs.Decode.{listsOf, columnsOf, Decoding}
@@ -30,7 +30,7 @@ use Rattle.decoder.proofs.Answers.{accepted-fine}
 use Rattle.decoder.proofs.Outcome.{decoding-columns}
 use Rattle.decoder.proofs.Held.{columns-lengths, columns-same}
 use Rattle.amend.specs.Steps.{withDelayIn}
-use Rattle.amend.proofs.Amended.{amended-lengths, amended-same}
+use Rattle.amend.proofs.Amended.{amended-same}
 use Rattle.cells.specs.Place.{tableOf}
 use Rattle.settle.specs.LineOf.{lineOf}
 use Rattle.settle.specs.Buffers.{Buffers, RightLengths}

@@ -1,9 +1,8 @@
 -- `check_row` meets its contract. Invariant: the cells from column l on are still to be checked. Measure: how many.
 -- Assumes nothing.
 use borrow.Author.Needs.{needs}
-use mathlib.Core.Path.{refl, _∙_}
+use mathlib.Core.Path.{refl}
 use Prim.Native.Nat.{_+_, _-_}
-use native.Mathlib.Nat.{le-trans, le-of-eq}
 use native.Mathlib.Omega.{arith}
 use Rattle.rail.proofs.Checks.{Searching, search-first, search-next, search-stop, search-end, hit, miss}
 use Rattle.amend.specs.Reported.{cellVerdict, rowVerdict}
