@@ -1,18 +1,22 @@
--- The checks of a report find nothing exactly where the plain facts hold, and whatever they find blanks.
+-- The checks of a report find nothing exactly where the plain facts hold, what they find is said in plain facts too,
+-- and whatever it is blanks.
 -- Assumes nothing.
-use mathlib.Core.Path.{_≡_, refl}
+use mathlib.Core.Path.{_≡_, refl, ap, sym, _∙_}
 use mathlib.Core.Bool.{true}
 use mathlib.Core.List.{List}
-use Prim.Native.Nat.{ℕ, _≤_, _<_}
+use mathlib.Core.Logic.{_⊎_, inl, inr}
+use Prim.Native.Nat.{ℕ, _+_, _-_, _≤_, _<_}
 use native.Mathlib.Omega.{arith}
 use Rattle.rail.specs.declared.Refusal.{Refusal}
 use Rattle.rail.specs.declared.Verdict.the-variants.{Fine, Refused}
-use Rattle.rail.specs.Refusal.{numberOf, blanksOf}
-use Rattle.rail.proofs.Checks.{then-fine, fine-then, not-below, fine-not-below, first-fine, fine-first}
+use Rattle.rail.specs.declared.Refusal.the-variants.{NoSuchTrain, NewDelay, CellOverLimit}
+use Rattle.rail.specs.Refusal.{train, blanksOf}
+use Rattle.rail.proofs.Checks.{fine-or-refused, then-fine, fine-then, not-below, fine-not-below, hit, miss}
+use Rattle.rail.proofs.Checks.{first-fine, fine-first, first-refused}
 use Rattle.rail.proofs.Refusing.{only-fine, only-below, only-then, only-first}
 use Rattle.line.specs.Ranges.{limit}
 use Rattle.cells.specs.Place.{tableOf}
-use Rattle.amend.specs.Reported.{cellVerdict, rowVerdict, laterVerdict, reportedVerdict, Reportable}
+use Rattle.amend.specs.Reported.{cellVerdict, rowVerdict, laterVerdict, reportedVerdict, Reportable, FirstOver}
 
 module _ (m i v : ℕ) (cells : List ℕ) where
   later-of-fine : laterVerdict m cells i ≡ Fine → (k l : ℕ) → i < k → k ≤ l → l ≤ m → tableOf m cells k l ≤ limit
@@ -50,12 +54,47 @@ module _ (m i v : ℕ) (cells : List ℕ) where
       (fine-then (fine-not-below _ _ _ (h .delay))
       (fine-of-later (h .later))))
 
-  -- what the later rows are refused for is 12
-  pub later-refusal : (r : Refusal) → laterVerdict m cells i ≡ Refused r → numberOf r ≡ 12
+  -- whatever a row is refused for is that row
+  row-refusal : (k : ℕ) (r : Refusal) → rowVerdict m cells k ≡ Refused r → CellOverLimit k ≡ r
+  unfolding rowVerdict cellVerdict
+  row-refusal k =
+      let P : Refusal → Type 0 = λ r. CellOverLimit k ≡ r in
+      only-first P _ _ _ (λ l. only-then P _ _ (only-below P _ _ _ refl) (only-fine P))
+
+  row-over : (k l : ℕ) → k ≤ l → l ≤ m → limit < tableOf m cells k l → rowVerdict m cells k ≡ Refused (CellOverLimit k)
+  unfolding rowVerdict cellVerdict
+  row-over k l a b over = elim (fine-or-refused (rowVerdict m cells k)) [
+    | inl fine ↦
+        let within = not-below _ _ _ (then-fine _ _ (first-fine (cellVerdict m cells k) _ _ fine l a (omega arith)) .0) in
+        absurd (omega (arith, over, within))
+    | inr (r, e) ↦ e ∙ ap Refused (sym (row-refusal k r e))
+  ]
+
+  later-over : (k : ℕ) → FirstOver m i cells k → laterVerdict m cells i ≡ Refused (CellOverLimit k)
   unfolding laterVerdict rowVerdict cellVerdict
-  later-refusal =
-      let P : Refusal → Type 0 = λ r. numberOf r ≡ 12 in
-      only-first P _ _ _ (λ k. only-first P _ _ _ (λ l. only-then P _ _ (only-below P _ _ _ refl) (only-fine P)))
+  later-over k h =
+      first-refused (rowVerdict m cells) (i + 1) (m - i) k _ (omega (arith, h .after))
+      (omega (arith, h .after, h .in-row, h .last))
+      (λ j a b. fine-first (cellVerdict m cells j) _ _ (λ l c d.
+      fine-then (fine-not-below _ _ _ (h .first j l (omega arith) b c (omega arith))) refl))
+      (row-over k (h .column) (h .in-row) (h .last) (h .over))
+
+  -- ---- each refusal, where the checks before it pass
+
+  pub reported-no-train : (i < 1) ⊎ (m < i) → reportedVerdict m i v cells ≡ Refused NoSuchTrain
+  unfolding reportedVerdict
+  reported-no-train (inl l) = sym (hit _ _ _ _ l)
+  reported-no-train (inr l) = sym (miss _ _ _ _ _ (omega arith) (hit _ _ _ _ l))
+
+  pub reported-too-late : 1 ≤ i → i ≤ m → 1440 < v → reportedVerdict m i v cells ≡ Refused (NewDelay (train i))
+  unfolding reportedVerdict
+  reported-too-late a b late = sym (miss _ _ _ _ _ a (miss _ _ _ _ _ b (hit _ _ _ _ late)))
+
+  pub reported-over : 1 ≤ i → i ≤ m → v ≤ 1440 → (k : ℕ) → FirstOver m i cells k
+      → reportedVerdict m i v cells ≡ Refused (CellOverLimit k)
+  unfolding reportedVerdict
+  reported-over a b small k h =
+      sym (miss _ _ _ _ _ a (miss _ _ _ _ _ b (miss _ _ _ _ _ small (sym (later-over k h)))))
 
   abbrev Blanks : Refusal → Type 0
   Blanks r = blanksOf r ≡ true

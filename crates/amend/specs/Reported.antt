@@ -4,6 +4,7 @@
 --   laterVerdict m cells i          12 for the rows after train i, the first first
 --   reportedVerdict m i v cells     11, 6, 12 for a report of v minutes for train i
 --   Reportable m i v cells          none of them
+--   FirstOver m i cells k           row k is the first after train i with a cell in use over the limit
 -- Assumes nothing.
 use Prim.Native.Nat.{ℕ, _+_, _-_, _≤_, _<_}
 use mathlib.Core.List.{List}
@@ -39,3 +40,13 @@ pub record Reportable (m i v : ℕ) (cells : List ℕ) : Type 0 where
   pub most : i ≤ m
   pub delay : v ≤ 1440
   pub later : (k l : ℕ) → i < k → k ≤ l → l ≤ m → tableOf m cells k l ≤ limit
+
+-- what 12 and its place are for, as plain facts
+pub record FirstOver (m i : ℕ) (cells : List ℕ) (k : ℕ) : Type 0 where
+  pub after : i < k
+  pub column : ℕ
+  pub in-row : k ≤ column
+  pub last : column ≤ m
+  pub over : limit < tableOf m cells k column
+  -- no row between them has such a cell
+  pub first : (j l : ℕ) → i < j → j < k → j ≤ l → l ≤ m → tableOf m cells j l ≤ limit

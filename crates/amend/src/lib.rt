@@ -23,7 +23,7 @@ fn check_row(cells: &[u64], m: u32, first: Train) -> Verdict
     requires { ⌜ (1 ≤ first .0) × (first .0 ≤ m) × (m ≤ 64) × (length (now cells) ≡ 4096) ⌝ }
     ensures { λ r. ⌜ r ≡ rowVerdict m (now (cells .entry)) (first .0) ⌝ }
 {
-    let mut l = first.0;
+    let mut l = first.leaves().0;
     while l <= m {
         if LIMIT < cell_at(cells, m, first, Station(l)) {
             return Verdict::Refused(Refusal::CellOverLimit(first.0));

@@ -34,6 +34,7 @@ use Rattle.sheet.proofs.Amend.{replaced-numbers, replaced-accepted}
 use Rattle.cells.specs.Place.{InUse}
 use Rattle.cells.proofs.Shown.{shown-length}
 use Rattle.amend.specs.Reported.{Reportable}
+use Rattle.amend.proofs.Reportable.{reported-no-train, reported-too-late, reported-over}
 use Rattle.settle.specs.LineOf.{lineOf}
 use Rattle.settle.specs.Buffers.{Buffers, RightLengths}
 use Rattle.settle.specs.Settled.{Settled}
@@ -44,7 +45,7 @@ use Rattle.planner.specs.Outcome.{answerNumber, answerTotal, buffersVerdict, Ou
 use Rattle.planner.specs.Plan.{planVerdict, Planned, Plan}
 use Rattle.planner.specs.Report.{reportVerdict, Reported, Report}
 use Rattle.planner.proofs.Refusals.{right-of-fine, checks-right, checks-wrong, checks-fine, afterLengths}
-use Rattle.planner.proofs.Refusals.{reports-of-fine, fine-of-reports, reports-blanks}
+use Rattle.planner.proofs.Refusals.{reports-of-fine, fine-of-reports, reports-blanks, report-asks}
 use Rattle.demands.specs.Demands.{SameLengths, Blanked, Carries, Answered, PlanAnswered, ReportAnswered}
 
 -- what an accepted call leaves: lengths as stated, nothing written but rows 1 to last, a total within the limit
@@ -212,11 +213,15 @@ module _ (s : List ℕ) (i v : ℕ) (before : Buffers) (t : List ℕ) (after : B
   unfolding reportVerdict
   report-answered h =
       let w = afterLengths s i v (before .cells) in
+      let told = answered w _ before after a (h .outcome) _ _ _ (reports-of-fine s i v (before .cells))
+      (λ both. fine-of-reports s i v (before .cells) (both .0) (both .1)) (reports-blanks s i v (before .cells))
+      (λ right fine. let both = reports-of-fine s i v (before .cells) fine in reported-left right (both .0) (both .1)) in
+      let asks = report-asks s i v before in
       record {
-        answered = answered w _ before after a (h .outcome) _ _ _ (reports-of-fine s i v (before .cells))
-            (λ both. fine-of-reports s i v (before .cells) (both .0) (both .1)) (reports-blanks s i v (before .cells))
-            (λ right fine. let told = reports-of-fine s i v (before .cells) fine in
-            reported-left right (told .0) (told .1));
+        answered = told;
+        no-train = λ right ok n. told .refuses _ (asks right ok ∙ reported-no-train _ i v _ n);
+        too-late = λ right ok x y late. told .refuses _ (asks right ok ∙ reported-too-late _ i v _ x y late);
+        over = λ right ok x y z k f. told .refuses _ (asks right ok ∙ reported-over _ i v _ x y z k f);
         sheet = λ refused. elim (fine-or-refused (reportVerdict s i v before)) [
           | inl fine ↦ absurd (refused (zero-of-fine w _ before after a (h .outcome) fine))
           | inr (r, e) ↦ h .kept r e

@@ -89,7 +89,7 @@ module _ (after4 : Buffers) (a4 : Answer) (t : List ℕ) (before after : Buffers
   run-b7 = reported sheetB 1 5 before t after a run-b4 (h .report)
 
   step-b7 : ReportInRun sheetB 1 5 before t after a
-  step-b7 = demand-3 sheetB 1 5 before t after a run-b4 (h .report)
+  step-b7 = demand-3 .every-report sheetB 1 5 before t after a run-b4 (h .report)
 
   zero-b7 : answerNumber a ≡ 0
   zero-b7 = step-b7 .accepts (h .right) (omega arith) (omega (arith, trains-b)) (omega arith)
@@ -110,7 +110,7 @@ pub answers-b8 : AnswersB8
 unfolding lineFrom
 answers-b8 after4 a4 t before7 after7 a7 u before after a h cells right report =
     let run = subst (InRun t) (sym cells) (run-b7 after4 a4 t before7 after7 a7 h) in
-    let step = demand-3 t 2 6 before u after a run report in
+    let step = demand-3 .every-report t 2 6 before u after a run report in
     let same = same-b7 after4 a4 t before7 after7 a7 h in
     let second : 2 ≤ trainsOf t = omega (arith, same .trains, trains-b) in
     let zero = step .accepts right (omega arith) second (omega arith) in

@@ -44,8 +44,10 @@ use Rattle.planner.proofs.Refusals.{buffers-refusal, checks-right, accepted-of-
 use Rattle.planner.proofs.Refusals.{accepted-of-report}
 use Rattle.planner.proofs.Taken.{settled-planned}
 use Rattle.planner.proofs.Outcome.{outcome-accepted, planned-same}
-use Rattle.demands.specs.Runs.{InRun, planned, reported, Agrees, OfItself, ReportInRun, Demand3}
-use Rattle.demands.proofs.Answered.{fine-of-zero, zero-of-fine}
+use Rattle.demands.specs.Runs.{InRun, planned, reported, refused-elsewhere, Agrees, OfItself, ReportInRun}
+use Rattle.demands.specs.Runs.{Begun, Demand3}
+use Rattle.demands.proofs.Answered.{fine-of-zero, zero-of-fine, plan-answered, report-answered}
+use Rattle.demands.proofs.Possible.{plan-possible}
 
 -- ---- what stands in a run: an accepted sheet, and the cells in use of its plan
 
@@ -244,6 +246,23 @@ module _ (s : List ℕ) (i v : ℕ) (before : Buffers) (t : List ℕ) (after : B
 standing-in-run : {s cells : List ℕ} → InRun s cells → Standing s cells
 standing-in-run (planned s before after a h zero) = planned-stands s before after a h zero
 standing-in-run (reported s i v before t after a run h) = stands s i v before t after a (standing-in-run run) h
+standing-in-run (refused-elsewhere s cells i v before t after a run h refused) =
+    rw (report-answered s i v before t after a h .sheet refused) (standing-in-run run)
+
+begin : (s : List ℕ) (lent : Buffers) → AcceptedSheet s → RightLengths lent → Begun s lent
+begin s lent ok right =
+    let found = plan-possible s lent in
+    let zero = plan-answered s lent (found .after) (found .answer) (found .plan) .accepts right ok in
+    record {
+      after = found .after;
+      answer = found .answer;
+      plan = found .plan;
+      run = planned s lent (found .after) (found .answer) (found .plan) zero;
+    }
 
 pub demand-3 : Demand3
-demand-3 s i v before t after a run = in-run s i v before t after a (standing-in-run run)
+demand-3 =
+    record {
+      begins = begin;
+      every-report = λ s i v before t after a run. in-run s i v before t after a (standing-in-run run);
+    }

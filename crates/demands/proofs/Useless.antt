@@ -1,31 +1,18 @@
 -- No useless version keeps the contracts: on sheet B the answer is 176, and decision byte 2 is 0; with T 13 it is 1, and
 -- so it is after the report of b7, which answers 68.
 -- Assumes nothing.
-use mathlib.Core.Path.{_≡_, refl, sym, ap, _∙_}
-use mathlib.Core.Logic.{inl, inr}
+use mathlib.Core.Path.{_≡_, sym, ap, subst, _∙_}
 use mathlib.Core.List.{List}
-use Prim.Native.Nat.{ℕ, _<_}
+use Prim.Native.Nat.{ℕ}
 use native.Mathlib.Omega.{arith}
-use lib.ListN.{getD}
 use Rattle.lists.specs.Run.{nth, padded}
 use Rattle.lists.proofs.Choice.{below-yes}
 use Rattle.lists.proofs.Order.{zero-not-one}
 use Rattle.lists.proofs.Run.{padded-nth}
-use Rattle.rail.specs.declared.Verdict.{Verdict}
-use Rattle.rail.specs.Verdict.{numberIn}
-use Rattle.rail.proofs.Checks.{fine-or-refused, then-pass, miss}
-use Rattle.sheet.specs.Format.{trainsOf}
-use Rattle.line.specs.Ranges.{limit}
-use Rattle.cells.specs.Place.{place}
+use Rattle.sheet.proofs.Facts.{accepted-of-fine}
 use Rattle.cells.specs.Shown.{shown}
-use Rattle.cells.proofs.Places.{table-in}
-use Rattle.amend.specs.Reported.{laterVerdict, reportedVerdict}
-use Rattle.amend.proofs.Reportable.{later-refusal}
-use Rattle.settle.specs.Buffers.{Buffers, RightLengths}
-use Rattle.planner.specs.declared.Answer.{Answer}
-use Rattle.planner.specs.Outcome.{answerNumber, answerTotal}
-use Rattle.planner.specs.Report.{reportVerdict, Report}
-use Rattle.planner.proofs.Refusals.{checks-right, afterLengths}
+use Rattle.amend.specs.Reported.{FirstOver}
+use Rattle.planner.specs.Outcome.{answerTotal}
 use Rattle.demands.specs.Sheets.{sheetB, decisionsB, keepKeep}
 use Rattle.demands.specs.Useless.{RefusesAllBreaks, SameDecisionsBreak, AllKeepBreaks, DoesNothingBreaks}
 use Rattle.demands.specs.Useless.{StaysBlankBreaks, RepeatsPlanBreaks, WritesEarlyBreaks}
@@ -83,37 +70,10 @@ repeats-plan-breaks after4 a4 t before after a h =
       λ same. absurd (omega (arith, ap answerTotal (sym (new .answer) ∙ same ∙ old .answer))),
     )
 
-module _ (before after : Buffers) (t : List ℕ) (a : Answer) (right : RightLengths before)
-    (over : limit < getD (before .cells) (place 3 3 3) 0) (h : Report sheetB 1 5 before t after a) where
-  abbrev later : Verdict
-  later = laterVerdict (trainsOf sheetB) (before .cells) 1
-
-  -- the checks before 12 pass
-  twelve-decides : reportVerdict sheetB 1 5 before ≡ later
-  unfolding reportVerdict reportedVerdict
-  twelve-decides =
-      checks-right before (afterLengths sheetB 1 5 (before .cells)) right
-      ∙ sym (then-pass _ _ _ sheet-b-accepted
-      (miss _ _ _ _ _ (omega arith)
-      (miss _ _ _ _ _ (omega (arith, trains-b))
-      (miss _ _ _ _ _ (omega arith) refl))))
-
-  -- and 12 does not
-  not-accepted : ¬ (answerNumber a ≡ 0)
-  not-accepted zero =
-      let report = report-answered sheetB 1 5 before t after a h .answered .accepted-only zero .1 .1 in
-      let within = report .later 3 3 (omega arith) (omega arith) (omega (arith, trains-b)) in
-      let here = table-in 3 (before .cells) 3 3 (omega arith) in
-      absurd (omega (arith, over, here, rw trains-b at within))
-
-  is-twelve : answerNumber a ≡ 12
-  is-twelve = elim (fine-or-refused later) [
-    | inl fine ↦ absurd (not-accepted (h .outcome .number ∙ ap numberIn (twelve-decides ∙ fine)))
-    | inr (r, e) ↦ h .outcome .number ∙ ap numberIn (twelve-decides ∙ e) ∙ later-refusal _ 1 5 (before .cells) r e
-  ]
-
 pub writes-early-breaks : WritesEarlyBreaks
-writes-early-breaks before after t a right over h = (
-  is-twelve before after t a right over h,
-  report-answered sheetB 1 5 before t after a h .sheet (not-accepted before after t a right over h),
-)
+writes-early-breaks before after t a k right first h =
+    let told = report-answered sheetB 1 5 before t after a h in
+    let ok = accepted-of-fine sheetB sheet-b-accepted in
+    let over = subst (λ (m : ℕ). FirstOver m 1 (before .cells) k) (sym trains-b) first in
+    let twelve = told .over right ok (omega arith) (omega (arith, trains-b)) (omega arith) k over in
+    (twelve, told .sheet (λ zero. absurd (omega (arith, zero, twelve .number))))

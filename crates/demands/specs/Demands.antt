@@ -11,17 +11,19 @@
 --   LeastPlan L after a       what demand 2 says of one accepted plan, of the line L
 --   Demand1, Demand2          the demands
 -- Assumes nothing.
-use Prim.Native.Nat.{ℕ, _≤_}
+use Prim.Native.Nat.{ℕ, _≤_, _<_}
 use mathlib.Core.Path.{_≡_}
 use mathlib.Core.List.{List}
+use mathlib.Core.Logic.{_⊎_}
 use lib.ListN.{length, getD, replicate}
 use Rattle.lists.specs.Choice.{ifSame}
 use Rattle.lists.specs.Run.{nth, padded}
 use Rattle.bits.specs.Field.{Bytes}
 use Rattle.rail.specs.declared.Refusal.{Refusal}
+use Rattle.rail.specs.declared.Refusal.the-variants.{NoSuchTrain, NewDelay, CellOverLimit}
 use Rattle.rail.specs.declared.Verdict.{Verdict}
 use Rattle.rail.specs.declared.Verdict.the-variants.{Refused}
-use Rattle.rail.specs.Refusal.{numberOf, placeOf}
+use Rattle.rail.specs.Refusal.{train, numberOf, placeOf}
 use Rattle.line.specs.Line.{Line}
 use Rattle.line.specs.Policy.{Keep, Go, Policy, arrival, total}
 use Rattle.line.specs.Plan.{FirstDifference}
@@ -33,7 +35,7 @@ use Rattle.sheet.specs.Accepted.{AcceptedSheet}
 use Rattle.meaning.specs.OneMeaning.{ReadThenWrite, WriteThenRead, EqualFields}
 use Rattle.cells.specs.Place.{place, InUse}
 use Rattle.cells.specs.Shown.{shown}
-use Rattle.amend.specs.Reported.{Reportable}
+use Rattle.amend.specs.Reported.{Reportable, FirstOver}
 use Rattle.settle.specs.LineOf.{lineOf}
 use Rattle.settle.specs.Buffers.{Buffers, RightLengths}
 use Rattle.planner.specs.declared.Answer.{Answer}
@@ -89,6 +91,12 @@ pub record ReportAnswered (s : List ℕ) (i v : ℕ) (before : Buffers) (t : Lis
     : Type 0 where
   pub answered : Answered (reportVerdict s i v before) (AcceptedSheet s × Reportable (trainsOf s) i v (before .cells))
       (trainsOf s) i before after a
+  -- Its own refusals, where buffers and sheet are right: 11; then 6, at the train; then 12, at the first such row.
+  pub no-train : RightLengths before → AcceptedSheet s → (i < 1) ⊎ (trainsOf s < i) → Carries NoSuchTrain a
+  pub too-late : RightLengths before → AcceptedSheet s → 1 ≤ i → i ≤ trainsOf s → 1440 < v
+      → Carries (NewDelay (train i)) a
+  pub over : RightLengths before → AcceptedSheet s → 1 ≤ i → i ≤ trainsOf s → v ≤ 1440 → (k : ℕ)
+      → FirstOver (trainsOf s) i (before .cells) k → Carries (CellOverLimit k) a
   -- A refused report does not change the sheet, and none its length.
   pub sheet : ¬ (answerNumber a ≡ 0) → t ≡ s
   pub sheet-length : length t ≡ length s

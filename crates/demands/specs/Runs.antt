@@ -4,6 +4,7 @@
 --   Agrees m after a after′ a′  two accepted calls agree in total, decisions, delays and working cells in use
 --   OfItself i r                the refusal r is for the report itself: its buffers, its train or its delay
 --   ReportInRun s i v before t after a     what demand 3 says of one report of a run
+--   Begun s lent                a run that begins with the sheet s
 --   Demand3                     the demand
 -- Assumes nothing.
 use Prim.Native.Nat.{ℕ, _≤_}
@@ -32,6 +33,9 @@ pub data InRun : List ℕ → List ℕ → Type 0 where
   -- and any run of delay reports follow, some perhaps refused.
   reported : (s : List ℕ) (i v : ℕ) (before : Buffers) (t : List ℕ) (after : Buffers) (a : Answer)
       → InRun s (before .cells) → Report s i v before t after a → InRun t (after .cells)
+  -- A refused one may have been lent any cells, of any length; those of the run are then as they were.
+  refused-elsewhere : (s cells : List ℕ) (i v : ℕ) (before : Buffers) (t : List ℕ) (after : Buffers) (a : Answer)
+      → InRun s cells → Report s i v before t after a → ¬ (answerNumber a ≡ 0) → InRun t cells
 
 pub record Agrees (m : ℕ) (after : Buffers) (a : Answer) (after′ : Buffers) (a′ : Answer) : Type 0 where
   pub accepted : answerNumber a′ ≡ 0
@@ -65,9 +69,15 @@ pub record ReportInRun (s : List ℕ) (i v : ℕ) (before : Buffers) (t : List �
   -- and after every report plan accepts the sheet as it stands.
   pub stands : AcceptedSheet t
 
-abbrev pub Demand3 : Type 0
-Demand3 =
-    (s : List ℕ) (i v : ℕ) (before : Buffers) (t : List ℕ) (after : Buffers) (a : Answer)
-    → InRun s (before .cells)
-    → Report s i v before t after a
-    → ReportInRun s i v before t after a
+-- an accepted plan of the sheet s, with which a run begins
+pub record Begun (s : List ℕ) (lent : Buffers) : Type 0 where
+  pub after : Buffers
+  pub answer : Answer
+  pub plan : Plan s lent after answer
+  pub run : InRun s (after .cells)
+
+pub record Demand3 : Type 0 where
+  -- Every accepted sheet begins a run, so that the rest is not said of nothing.
+  pub begins : (s : List ℕ) (lent : Buffers) → AcceptedSheet s → RightLengths lent → Begun s lent
+  pub every-report : (s : List ℕ) (i v : ℕ) (before : Buffers) (t : List ℕ) (after : Buffers) (a : Answer)
+      → InRun s (before .cells) → Report s i v before t after a → ReportInRun s i v before t after a

@@ -8,24 +8,24 @@
 --   RepeatsPlanBreaks    one that plans honestly and then merely repeats its plan at each report: after b4 the report
 --                        of b7 leaves other decisions, other delays and another total than the plan
 --   WritesEarlyBreaks    one that writes the sheet before it tests 12: with a later cell over the limit the report of b7
---                        is 12 and leaves sheet B
+--                        is 12, at the first such row, and leaves sheet B
 -- Assumes nothing.
-use Prim.Native.Nat.{ℕ, _<_}
+use Prim.Native.Nat.{ℕ}
 use mathlib.Core.Path.{_≡_}
 use mathlib.Core.List.{List}
-use lib.ListN.{getD, replicate}
+use lib.ListN.{replicate}
 use Rattle.lists.specs.Run.{nth, padded}
 use Rattle.rail.specs.declared.Refusal.{Refusal}
+use Rattle.rail.specs.declared.Refusal.the-variants.{CellOverLimit}
 use Rattle.line.specs.Policy.{Keep}
-use Rattle.line.specs.Ranges.{limit}
-use Rattle.cells.specs.Place.{place}
 use Rattle.cells.specs.Shown.{shown}
 use Rattle.planner.specs.declared.Answer.{Answer}
 use Rattle.planner.specs.declared.Answer.the-variants.{Refused as AnswerRefused}
 use Rattle.settle.specs.Buffers.{Buffers, RightLengths}
-use Rattle.planner.specs.Outcome.{answerNumber}
+use Rattle.amend.specs.Reported.{FirstOver}
 use Rattle.planner.specs.Plan.{Plan}
 use Rattle.planner.specs.Report.{Report}
+use Rattle.demands.specs.Demands.{Carries}
 use Rattle.demands.specs.Sheets.{sheetB, sheetB13, decisionsB, ReportAfterB4}
 
 abbrev pub RefusesAllBreaks : Type 0
@@ -74,8 +74,8 @@ RepeatsPlanBreaks =
 
 abbrev pub WritesEarlyBreaks : Type 0
 WritesEarlyBreaks =
-    (before after : Buffers) (t : List ℕ) (a : Answer)
+    (before after : Buffers) (t : List ℕ) (a : Answer) (k : ℕ)
     → RightLengths before
-    → limit < getD (before .cells) (place 3 3 3) 0
+    → FirstOver 3 1 (before .cells) k
     → Report sheetB 1 5 before t after a
-    → (answerNumber a ≡ 12) × (t ≡ sheetB)
+    → Carries (CellOverLimit k) a × (t ≡ sheetB)

@@ -109,6 +109,14 @@ module _ (s : List ℕ) (i v : ℕ) (cells : List ℕ) where
       only-then (λ (r : Refusal). blanksOf r ≡ true) (sheetVerdict s) _ (sheet-refusal-blanks s)
       (reported-refusal-blanks (trainsOf s) i v cells)
 
+-- with buffers and a sheet that are right the report's own checks decide
+pub report-asks : (s : List ℕ) (i v : ℕ) (b : Buffers) → RightLengths b → AcceptedSheet s
+    → reportVerdict s i v b ≡ reportedVerdict (trainsOf s) i v (b .cells)
+unfolding reportVerdict
+report-asks s i v b right ok =
+    checks-right b (afterLengths s i v (b .cells)) right
+    ∙ sym (then-pass (sheetVerdict s) _ _ (fine-of-accepted s ok) refl)
+
 pub accepted-of-report : (s : List ℕ) (i v : ℕ) (b : Buffers) → reportVerdict s i v b ≡ Fine
     → RightLengths b × AcceptedSheet s × Reportable (trainsOf s) i v (b .cells)
 unfolding reportVerdict

@@ -160,6 +160,19 @@ fine-first f i zero h = refl
 fine-first f i (suc n) h =
     fine-then (h i (omega arith) (omega arith)) (fine-first f (i + 1) n (λ j a b. h j (omega arith) (omega arith)))
 
+-- the first check that refuses is what a run of them says
+pub first-refused : (f : ℕ → Verdict) (i n j : ℕ) (r : Refusal) → i ≤ j → j < i + n
+    → ((q : ℕ) → i ≤ q → q < j → f q ≡ Fine) → f j ≡ Refused r → firstOf f i n ≡ Refused r
+unfolding firstOf runOf
+first-refused f i zero j r a b fine e = let no-way : ⊥ = omega arith in absurd no-way
+first-refused f i (suc n) j r a b fine e =
+    ⊎-elim
+    (λ (z : i ≡ j). sym (then-stop (f i) _ refl (sym (rw z e))))
+    (λ (l : i < j).
+    sym (then-pass (f i) (firstOf f (i + 1) n) _ (fine i (omega arith) l)
+    (sym (first-refused f (i + 1) n j r (omega arith) (omega arith) (λ q u v. fine q (omega arith) v) e))))
+    (eq-or-lt-of-le a)
+
 -- ---- what depends on a verdict
 
 pub if-fine : {A : Type 0} (v : Verdict) (x y : A) → Fine ≡ v → x ≡ ifFine v x y

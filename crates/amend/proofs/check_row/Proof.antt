@@ -15,12 +15,15 @@ Inv-loop cells m first l₀ l = Searching (cellVerdict m cells (first .0)) (firs
 abbrev μ-loop : tie.MeasureT-loop
 μ-loop cells m first l₀ l = m + 1 - l
 
+leaves-requires : tie.Need-leaves-requires Inv-loop μ-loop
+leaves-requires c κs = search needs
+
 loop-holds : tie.Need-loop-holds Inv-loop μ-loop
-loop-holds c = search-first _ _ _
+loop-holds c = rw (c .leaves .ensures) (search-first _ _ _)
 
 cell-at-requires : tie.Need-cell-at-requires Inv-loop μ-loop
 cell-at-requires c κs =
-    let start = c .before .before .before .pre in
+    let start = c .before .before .before .before .pre in
     (start .0, c .before .loop .inv .least, start .2, start .3)
 
 -- the cell is over the limit
@@ -55,6 +58,7 @@ check-row-spec =
     (tie.spec
     Inv-loop
     μ-loop
+    leaves-requires
     loop-holds
     cell-at-requires
     returns
