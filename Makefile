@@ -5,8 +5,8 @@
 help:
 	@echo 'make run       prove plan and report, run them on the cases of document 01 and show what they answer and store'
 	@echo 'make test      the gate: prove everything from nothing, try the wrong versions, run the programs (7 minutes)'
-	@echo 'make vectors   compare the test inputs and the answers they must get with the independent readings of document 01'
-	@echo 'make wrong     tell how many test records each of 30 wrong rules of planning and 45 of reporting would change (python3, 90 s)'
+	@echo 'make vectors   compare the test inputs and the answers they must get with independent readings of document 01'
+	@echo 'make wrong     tell how many test records each of 30 wrong rules of plan and 45 of report changes (2 minutes)'
 	@echo 'make format    lay out every source file'
 
 run:

@@ -278,7 +278,7 @@ def answer(sheet, lengths=LENGTHS):
 # ---------------------------------------------------------------------------
 
 def sum_line(found, name='plan'):
-    """Of a record 'P': the answer, then a sum for each list."""
+    """Of a record 'P', or of a step of a record 'R': the answer, then a sum for each list."""
     return '%s %d %d %d' % ((name,) + found[:3]) + ''.join(' %d' % (weighed(part) % 10 ** 18) for part in found[3:])
 
 

@@ -29,8 +29,8 @@
 #        and all the bytes; delays and all of them; if accepted, row K: and the cells in use of that row,
 #        for each row; sheet and its bytes; changed and the number of cells that do not hold what they
 #        held before the step.
-# Sums and names are those of tests/plans.py. Cells that a step sets can be over the limit there; their sum
-# may then hide a difference, but only one of a large part of 10^18.
+# Sums and names are those of tests/plans.py. Cells that a step sets may be over the limit; then two different
+# lists can have the same sum.
 
 import struct
 import sys
@@ -523,7 +523,7 @@ def damaged():
 
 
 def make_runs():
-    chance.state = 1917     # a seed of our own
+    chance.state = 1917     # another seed than tests/plans.py's
     followed()
     on_other_cells()
     over_the_limit()
@@ -682,7 +682,7 @@ class LastRowTold(Rule):
         return rows[-1]
 
 
-class RowFromTrain(Rule):
+class PlaceFromTrain(Rule):
     """the place of 12 counted from the train"""
     def told(self, rows, train):
         return rows[0] - train
@@ -851,7 +851,7 @@ class BlanksAtTen(Rule):
 
 WRONG = [RepeatsPlan, OwnRowKept, OwnRowOnly, RowsFromTrain, AllRows, RowOneFirst, RowsNotStored, OwnRowTested,
          AllRowsTested, NextRowSpared, NothingTested, NotInUse, LeftOfUse, RowsBehind, FirstCells, AtTheLimit,
-         OneOver, LastRowTold, RowFromTrain, TrainTold, SheetBeforeTwelve, RowsBeforeTwelve, SheetThoughRefused,
+         OneOver, LastRowTold, PlaceFromTrain, TrainTold, SheetBeforeTwelve, RowsBeforeTwelve, SheetThoughRefused,
          NextField, TenBits, SheetKept, OldSheet, OldDelays, SixBeforeEleven, TwelveBeforeSix, ElevenBeforeSheet,
          LengthsLast, SixAtZero, ElevenAtTrain, LastTrainRefused, MostDelayRefused, DelayCut, TrainCut, LastInstead,
          ShownTotal, CellsBefore, ByTheCell, TieGoes, NotBlanked, BlanksAtTen]

@@ -16,7 +16,7 @@ use Rattle.rail.proofs.Checks.{first-fine, fine-first, first-refused}
 use Rattle.rail.proofs.Refusing.{only-fine, only-below, only-then, only-first}
 use Rattle.line.specs.Ranges.{limit}
 use Rattle.cells.specs.Place.{tableOf}
-use Rattle.amend.specs.Reported.{cellVerdict, rowVerdict, laterVerdict, reportedVerdict, Reportable, FirstOver}
+use Rattle.amend.specs.Checks.{cellVerdict, rowVerdict, laterVerdict, ownVerdict, Reportable, FirstOver}
 
 module _ (m i v : ℕ) (cells : List ℕ) where
   later-of-fine : laterVerdict m cells i ≡ Fine → (k l : ℕ) → i < k → k ≤ l → l ≤ m → tableOf m cells k l ≤ limit
@@ -33,8 +33,8 @@ module _ (m i v : ℕ) (cells : List ℕ) where
       fine-first (cellVerdict m cells k) _ _ (λ l c d.
       fine-then (fine-not-below _ _ _ (h k l (omega arith) c (omega arith))) refl))
 
-  pub reportable-of-fine : reportedVerdict m i v cells ≡ Fine → Reportable m i v cells
-  unfolding reportedVerdict
+  pub reportable-of-fine : ownVerdict m i v cells ≡ Fine → Reportable m i v cells
+  unfolding ownVerdict
   reportable-of-fine e =
       let x = then-fine _ _ e in
       let y = then-fine _ _ (x .1) in
@@ -46,8 +46,8 @@ module _ (m i v : ℕ) (cells : List ℕ) where
         later = later-of-fine (z .1);
       }
 
-  pub fine-of-reportable : Reportable m i v cells → reportedVerdict m i v cells ≡ Fine
-  unfolding reportedVerdict
+  pub fine-of-reportable : Reportable m i v cells → ownVerdict m i v cells ≡ Fine
+  unfolding ownVerdict
   fine-of-reportable h =
       fine-then (fine-not-below _ _ _ (h .least))
       (fine-then (fine-not-below _ _ _ (h .most))
@@ -65,8 +65,8 @@ module _ (m i v : ℕ) (cells : List ℕ) where
   unfolding rowVerdict cellVerdict
   row-over k l a b over = elim (fine-or-refused (rowVerdict m cells k)) [
     | inl fine ↦
-        let within = not-below _ _ _ (then-fine _ _ (first-fine (cellVerdict m cells k) _ _ fine l a (omega arith)) .0) in
-        absurd (omega (arith, over, within))
+        let cell = first-fine (cellVerdict m cells k) _ _ fine l a (omega arith) in
+        absurd (omega (arith, over, not-below _ _ _ (then-fine _ _ cell .0)))
     | inr (r, e) ↦ e ∙ ap Refused (sym (row-refusal k r e))
   ]
 
@@ -81,27 +81,27 @@ module _ (m i v : ℕ) (cells : List ℕ) where
 
   -- ---- each refusal, where the checks before it pass
 
-  pub reported-no-train : (i < 1) ⊎ (m < i) → reportedVerdict m i v cells ≡ Refused NoSuchTrain
-  unfolding reportedVerdict
-  reported-no-train (inl l) = sym (hit _ _ _ _ l)
-  reported-no-train (inr l) = sym (miss _ _ _ _ _ (omega arith) (hit _ _ _ _ l))
+  pub own-no-train : (i < 1) ⊎ (m < i) → ownVerdict m i v cells ≡ Refused NoSuchTrain
+  unfolding ownVerdict
+  own-no-train (inl l) = sym (hit _ _ _ _ l)
+  own-no-train (inr l) = sym (miss _ _ _ _ _ (omega arith) (hit _ _ _ _ l))
 
-  pub reported-too-late : 1 ≤ i → i ≤ m → 1440 < v → reportedVerdict m i v cells ≡ Refused (NewDelay (train i))
-  unfolding reportedVerdict
-  reported-too-late a b late = sym (miss _ _ _ _ _ a (miss _ _ _ _ _ b (hit _ _ _ _ late)))
+  pub own-too-late : 1 ≤ i → i ≤ m → 1440 < v → ownVerdict m i v cells ≡ Refused (NewDelay (train i))
+  unfolding ownVerdict
+  own-too-late a b late = sym (miss _ _ _ _ _ a (miss _ _ _ _ _ b (hit _ _ _ _ late)))
 
-  pub reported-over : 1 ≤ i → i ≤ m → v ≤ 1440 → (k : ℕ) → FirstOver m i cells k
-      → reportedVerdict m i v cells ≡ Refused (CellOverLimit k)
-  unfolding reportedVerdict
-  reported-over a b small k h =
+  pub own-over : 1 ≤ i → i ≤ m → v ≤ 1440 → (k : ℕ) → FirstOver m i cells k
+      → ownVerdict m i v cells ≡ Refused (CellOverLimit k)
+  unfolding ownVerdict
+  own-over a b small k h =
       sym (miss _ _ _ _ _ a (miss _ _ _ _ _ b (miss _ _ _ _ _ small (sym (later-over k h)))))
 
   abbrev Blanks : Refusal → Type 0
   Blanks r = blanksOf r ≡ true
 
-  pub reported-refusal-blanks : (r : Refusal) → reportedVerdict m i v cells ≡ Refused r → blanksOf r ≡ true
-  unfolding reportedVerdict laterVerdict rowVerdict cellVerdict
-  reported-refusal-blanks =
+  pub own-refusal-blanks : (r : Refusal) → ownVerdict m i v cells ≡ Refused r → blanksOf r ≡ true
+  unfolding ownVerdict laterVerdict rowVerdict cellVerdict
+  own-refusal-blanks =
       only-then Blanks _ _ (only-below Blanks _ _ _ refl)
       (only-then Blanks _ _ (only-below Blanks _ _ _ refl)
       (only-then Blanks _ _ (only-below Blanks _ _ _ refl)

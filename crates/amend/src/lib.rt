@@ -4,7 +4,7 @@ ghost use mathlib.Core.Path.{_≡_};
 ghost use Prim.Native.Nat.{_≤_};
 ghost use lib.ListN.{length};
 ghost use Rattle.sheet.specs.Accepted.{DelayReplaced};
-ghost use Rattle.amend.specs.Reported.{rowVerdict, laterVerdict, reportedVerdict};
+ghost use Rattle.amend.specs.Checks.{rowVerdict, laterVerdict, ownVerdict};
 ghost use Rattle.amend.specs.Steps.{withDelayIn, DelayRoom};
 use bits::put;
 use cells::place::cell_at;
@@ -50,9 +50,9 @@ fn check_rows_after(cells: &[u64], m: u32, train: Train) -> Verdict
 }
 
 // The train, its new delay, the rows after it.
-pub fn check_reported(m: u32, train: Train, delay: u32, cells: &[u64]) -> Verdict
+pub fn check_own(m: u32, train: Train, delay: u32, cells: &[u64]) -> Verdict
     requires { ⌜ (m ≤ 64) × (length (now cells) ≡ 4096) ⌝ }
-    ensures { λ r. ⌜ r ≡ reportedVerdict m (train .0) delay (now (cells .entry)) ⌝ }
+    ensures { λ r. ⌜ r ≡ ownVerdict m (train .0) delay (now (cells .entry)) ⌝ }
 {
     if train.0 < 1 {
         return Verdict::Refused(Refusal::NoSuchTrain);

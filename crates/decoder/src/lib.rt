@@ -1,5 +1,6 @@
 // A sheet taken apart: its head, each field behind it once, and the checks on what was read.
-// Reading and planning start from it. `decode` has no `requires`: any bytes get an answer.
+// Reading, planning and reporting start from it. `decode` has no `requires`: any bytes get an
+// answer.
 ghost use mathlib.Core.Path.{_≡_};
 ghost use Prim.Native.Nat.{_-_};
 ghost use lib.ListN.{length};
@@ -191,7 +192,7 @@ fn check_body(sheet: &[u8], m: u32, columns: Columns) -> Verdict
     check_filling(sheet, m as usize)
 }
 
-// A sheet that is refused: no column counts, and all are 0.
+// What is refused, for the sheet or for another check: no column counts, and all are 0.
 pub fn refused(refusal: Refusal) -> Decoded
     ensures { λ r. ⌜ (r .answer ≡ Reading.Refused refusal) × (r .columns ≡ noColumns) ⌝ }
 {

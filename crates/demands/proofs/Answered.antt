@@ -1,5 +1,5 @@
--- Demand 1 of one call: what follows from an outcome of checks that begin with the lengths of the buffers, once for plan
--- and report; and what an accepted plan and an accepted report leave.
+-- Demand 1 of one call: what follows from an outcome of checks that begin with the lengths of the buffers, once for
+-- plan and report; and what an accepted plan and an accepted report leave.
 -- Assumes nothing.
 use mathlib.Core.Path.{_≡_, sym, ap, subst, _∙_}
 use mathlib.Core.Bool.{true}
@@ -33,8 +33,8 @@ use Rattle.sheet.proofs.Refusals.{sheet-refusal-blanks}
 use Rattle.sheet.proofs.Amend.{replaced-numbers, replaced-accepted}
 use Rattle.cells.specs.Place.{InUse}
 use Rattle.cells.proofs.Shown.{shown-length}
-use Rattle.amend.specs.Reported.{Reportable}
-use Rattle.amend.proofs.Reportable.{reported-no-train, reported-too-late, reported-over}
+use Rattle.amend.specs.Checks.{Reportable}
+use Rattle.amend.proofs.Reportable.{own-no-train, own-too-late, own-over}
 use Rattle.settle.specs.LineOf.{lineOf}
 use Rattle.settle.specs.Buffers.{Buffers, RightLengths}
 use Rattle.settle.specs.Settled.{Settled}
@@ -44,9 +44,9 @@ use Rattle.planner.specs.declared.Answer.{Answer}
 use Rattle.planner.specs.Outcome.{answerNumber, answerTotal, buffersVerdict, Outcome}
 use Rattle.planner.specs.Plan.{planVerdict, Planned, Plan}
 use Rattle.planner.specs.Report.{reportVerdict, Reported, Report}
-use Rattle.planner.proofs.Refusals.{right-of-fine, checks-right, checks-wrong, checks-fine, afterLengths}
-use Rattle.planner.proofs.Refusals.{reports-of-fine, fine-of-reports, reports-blanks, report-asks}
-use Rattle.demands.specs.Demands.{SameLengths, Blanked, Carries, Answered, PlanAnswered, ReportAnswered}
+use Rattle.planner.proofs.Refusals.{right-of-fine, checks-right, checks-wrong, checks-fine, afterLengthsVerdict}
+use Rattle.planner.proofs.Refusals.{facts-of-fine, fine-of-facts, after-lengths-blanks, own-decides}
+use Rattle.demands.specs.Answered.{SameLengths, Blanked, Carries, Answered, PlanAnswered, ReportAnswered}
 
 -- what an accepted call leaves: lengths as stated, nothing written but rows 1 to last, a total within the limit
 record Left (m last : ℕ) (before after : Buffers) (a : Answer) : Type 0 where
@@ -131,6 +131,26 @@ module _ (w : Verdict) (Stored : Type 0) (before after : Buffers) (a : Answer)
           }
     ]
 
+    blanks-when-refused : RightLengths before → ¬ (answerNumber a ≡ 0) → Blanked before after
+    blanks-when-refused right refused = elim (fine-or-refused checks) [
+      | inl fine ↦ absurd (refused (zero-of-fine fine))
+      | inr (r, e) ↦ blanked right r e
+    ]
+
+    untouched-when-wrong : ¬ (RightLengths before) → (answerNumber a ≡ 10) × (after ≡ before)
+    untouched-when-wrong wrong = elim (fine-or-refused (buffersVerdict before)) [
+      | inl fine ↦ absurd (wrong (right-of-fine before fine))
+      | inr (r, e) ↦
+          let ten = checks-wrong before w r e in
+          (h .number ∙ ap numberIn ten, nothing-written ten)
+    ]
+
+    total-most : answerTotal a ≤ limit
+    total-most = elim (fine-or-refused checks) [
+      | inl fine ↦ left-when fine .most
+      | inr (r, e) ↦ rw (refused-by r e .total) zero-le
+    ]
+
     answered : Answered checks Passes m last before after a
     answered =
         record {
@@ -138,22 +158,11 @@ module _ (w : Verdict) (Stored : Type 0) (before after : Buffers) (a : Answer)
           accepted-only = λ e. let both = checks-fine before w (fine-of-zero e) in (both .0, passes (both .1));
           accepted-place = λ e. h .place ∙ ap placeIn (fine-of-zero e);
           refuses = refused-by;
-          blanks = λ right refused. elim (fine-or-refused checks) [
-            | inl fine ↦ absurd (refused (zero-of-fine fine))
-            | inr (r, e) ↦ blanked right r e
-          ];
-          untouched = λ wrong. elim (fine-or-refused (buffersVerdict before)) [
-            | inl fine ↦ absurd (wrong (right-of-fine before fine))
-            | inr (r, e) ↦
-                let ten = checks-wrong before w r e in
-                (h .number ∙ ap numberIn ten, nothing-written ten)
-          ];
+          blanks = blanks-when-refused;
+          untouched = untouched-when-wrong;
           others = λ e. left-when (fine-of-zero e) .others;
           lengths = lengths-kept;
-          most = elim (fine-or-refused checks) [
-            | inl fine ↦ left-when fine .most
-            | inr (r, e) ↦ rw (refused-by r e .total) zero-le
-          ];
+          most = total-most;
         }
 
 -- ---- of a plan
@@ -204,30 +213,40 @@ module _ (s : List ℕ) (i v : ℕ) (before : Buffers) (t : List ℕ) (after : B
   unfolding lineOf lineFrom
   reported-left right ok report reported =
       let same = replaced-numbers s t i v ok (report .least) (report .most) (reported .sheet) in
-      let range = replaced-accepted s t i v ok (report .least) (report .most) (reported .sheet) (report .delay) .numbers in
+      let range = replaced-accepted s t i v ok (report .least) (report .most) (reported .sheet) (report .delay)
+      .numbers in
       subst (λ (m : ℕ). Left m i before after a) (same .trains)
       (settled-left (lineOf (numbersOf t)) i before after a (line-in-range (numbersOf t) range) (report .least)
       (omega (arith, report .most, same .trains)) right (reported .settled))
 
-  pub report-answered : Report s i v before t after a → ReportAnswered s i v before t after a
-  unfolding reportVerdict
-  report-answered h =
-      let w = afterLengths s i v (before .cells) in
-      let told = answered w _ before after a (h .outcome) _ _ _ (reports-of-fine s i v (before .cells))
-      (λ both. fine-of-reports s i v (before .cells) (both .0) (both .1)) (reports-blanks s i v (before .cells))
-      (λ right fine. let both = reports-of-fine s i v (before .cells) fine in reported-left right (both .0) (both .1)) in
-      let asks = report-asks s i v before in
-      record {
-        answered = told;
-        no-train = λ right ok n. told .refuses _ (asks right ok ∙ reported-no-train _ i v _ n);
-        too-late = λ right ok x y late. told .refuses _ (asks right ok ∙ reported-too-late _ i v _ x y late);
-        over = λ right ok x y z k f. told .refuses _ (asks right ok ∙ reported-over _ i v _ x y z k f);
-        sheet = λ refused. elim (fine-or-refused (reportVerdict s i v before)) [
-          | inl fine ↦ absurd (refused (zero-of-fine w _ before after a (h .outcome) fine))
-          | inr (r, e) ↦ h .kept r e
-        ];
-        sheet-length = elim (fine-or-refused (reportVerdict s i v before)) [
-          | inl fine ↦ h .outcome .accepted fine .sheet .put .long
-          | inr (r, e) ↦ ap length (h .kept r e)
-        ];
-      }
+  module _ (h : Report s i v before t after a) where
+    abbrev w : Verdict
+    w = afterLengthsVerdict s i v (before .cells)
+
+    told : Answered (reportVerdict s i v before) (AcceptedSheet s × Reportable (trainsOf s) i v (before .cells))
+        (trainsOf s) i before after a
+    unfolding reportVerdict
+    told =
+        answered w _ before after a (h .outcome) _ _ _ (facts-of-fine s i v (before .cells))
+        (λ both. fine-of-facts s i v (before .cells) (both .0) (both .1)) (after-lengths-blanks s i v (before .cells))
+        (λ right fine. let both = facts-of-fine s i v (before .cells) fine in
+        reported-left right (both .0) (both .1))
+
+    pub report-answered : ReportAnswered s i v before t after a
+    unfolding reportVerdict
+    report-answered =
+        let own = own-decides s i v before in
+        record {
+          answered = told;
+          no-train = λ right ok n. told .refuses _ (own right ok ∙ own-no-train _ i v _ n);
+          too-late = λ right ok x y late. told .refuses _ (own right ok ∙ own-too-late _ i v _ x y late);
+          over = λ right ok x y z k f. told .refuses _ (own right ok ∙ own-over _ i v _ x y z k f);
+          sheet = λ refused. elim (fine-or-refused (reportVerdict s i v before)) [
+            | inl fine ↦ absurd (refused (zero-of-fine w _ before after a (h .outcome) fine))
+            | inr (r, e) ↦ h .kept r e
+          ];
+          sheet-length = elim (fine-or-refused (reportVerdict s i v before)) [
+            | inl fine ↦ h .outcome .accepted fine .sheet .put .long
+            | inr (r, e) ↦ ap length (h .kept r e)
+          ];
+        }

@@ -30,7 +30,8 @@ use Rattle.planner.specs.Outcome.{answerTotal}
 use Rattle.planner.specs.Plan.{planVerdict, Planned}
 use Rattle.planner.proofs.Refusals.{accepted-of-plan}
 use Rattle.planner.proofs.Outcome.{plan-outcome-one, report-outcome-one}
-use Rattle.demands.specs.Demands.{Demand1, policyIn, LeastPlan, Demand2}
+use Rattle.demands.specs.Answered.{Demand1}
+use Rattle.demands.specs.Least.{policyIn, LeastPlan, Demand2}
 use Rattle.demands.proofs.Answered.{fine-of-zero, plan-answered, report-answered}
 use Rattle.demands.proofs.Possible.{plan-possible, report-possible}
 
@@ -73,7 +74,7 @@ module _ (L : Line) (before after : Buffers) (a : Answer) (few : L .trains ≤ 6
   days : DaysAlike 1 (L .trains) (dayOf (L .running) (plan .policy)) (dayOf (L .running) shows)
   days = same-days L L (plan .policy) shows (lines-alike-refl 1 L) agrees
 
-  pub least-plan : LeastPlan L after a
+  least-plan : LeastPlan L after a
   least-plan =
       record {
         told = ap answerTotal (plan .answer) ∙ same-total L L (plan .policy) shows (lines-alike-refl 1 L) agrees;

@@ -24,7 +24,8 @@ use Rattle.line.specs.Cells.{Table, Book, bookOf, Worked, decide}
 use Rattle.line.proofs.Alike.{books-alike-refl, cell-by-alike}
 use Rattle.line.proofs.Tables.{workedTable, worked-exists}
 use Rattle.sheet.specs.Numbers.{numbersOf}
-use Rattle.sheet.specs.Accepted.{DelayReplaced}
+use Rattle.sheet.specs.Format.{trainsOf}
+use Rattle.sheet.specs.Accepted.{AcceptedSheet, DelayReplaced}
 use Rattle.sheet.proofs.Amend.{replaced-accepted}
 use Rattle.cells.specs.Place.{place, tableOf, InUse, RowsWorked}
 use Rattle.cells.specs.Shown.{shown}
@@ -40,7 +41,7 @@ use Rattle.planner.specs.Report.{reportVerdict}
 use Rattle.planner.proofs.Refusals.{accepted-of-plan, accepted-of-report}
 use Rattle.planner.proofs.Taken.{settled-planned}
 use Rattle.planner.proofs.Outcome.{outcome-accepted, outcome-refused}
-use Rattle.demands.specs.Demands.{PlanPossible, ReportPossible}
+use Rattle.demands.specs.Answered.{PlanPossible, ReportPossible}
 
 -- ---- the cells with rows 1 to t worked
 
@@ -48,12 +49,12 @@ module _ (B : Book) (few : B .trains ≤ 64) (t : ℕ) (old : List ℕ) where
   abbrev m : ℕ
   m = B .trains
 
-  abbrev T : Table
-  T = workedTable B t (tableOf m old)
+  abbrev table : Table
+  table = workedTable B t (tableOf m old)
 
   -- what belongs in place p, in use or not
   put : (p : ℕ) → InUse m t p ⊎ ¬ (InUse m t p) → ℕ
-  put p (inl u) = T (u .row) (u .cell .column)
+  put p (inl u) = table (u .row) (u .cell .column)
   put p (inr n) = getD old p 0
 
   workedCells : List ℕ
@@ -71,12 +72,12 @@ module _ (B : Book) (few : B .trains ≤ 64) (t : ℕ) (old : List ℕ) where
 
   -- a cell of the line has the table's number, in a row that is worked and in one that stands
   put-used : (k l : ℕ) → 1 ≤ k → k ≤ l → l ≤ m → (x : InUse m t (place m k l) ⊎ ¬ (InUse m t (place m k l)))
-      → put (place m k l) x ≡ T k l
+      → put (place m k l) x ≡ table k l
   unfolding put
   put-used k l a b c (inl u) =
       let same = place-one m k l (u .row) (u .cell .column) few a b c (u .least) (u .cell .run) (u .cell .last)
       (u .cell .stands) in
-      ap₂ T (sym (same .0)) (sym (same .1))
+      ap₂ table (sym (same .0)) (sym (same .1))
   put-used k l a b c (inr n) = elim (lt-or-ge t k) [
     | inl later ↦ sym (table-in m old k l c) ∙ sym (worked-exists B t (tableOf m old) .stand k l later b c)
     | inr most ↦
@@ -93,7 +94,7 @@ module _ (B : Book) (few : B .trains ≤ 64) (t : ℕ) (old : List ℕ) where
   put-unused p (inl u) n = absurd (n u)
   put-unused p (inr u) n = refl
 
-  used : (k l : ℕ) → 1 ≤ k → k ≤ l → l ≤ m → tableOf m workedCells k l ≡ T k l
+  used : (k l : ℕ) → 1 ≤ k → k ≤ l → l ≤ m → tableOf m workedCells k l ≡ table k l
   used k l a b c =
       table-in m workedCells k l c ∙ cell-there (place m k l) (place-lt m k l a b c few) ∙ put-used k l a b c _
 
@@ -106,11 +107,11 @@ module _ (B : Book) (few : B .trains ≤ 64) (t : ℕ) (old : List ℕ) where
   ]
 
   -- the cell after (k, l), in use or past the last
-  next : (k l : ℕ) → 1 ≤ k → k ≤ l → l ≤ m → T k (l + 1) ≡ tableOf m workedCells k (l + 1)
+  next : (k l : ℕ) → 1 ≤ k → k ≤ l → l ≤ m → table k (l + 1) ≡ tableOf m workedCells k (l + 1)
   next k l a b c = elim (lt-or-ge m (l + 1)) [
     | inl x ↦
         let e : m + 1 ≡ l + 1 = omega arith in
-        ap (T k) (sym e) ∙ worked-exists B t (tableOf m old) .last k ∙ sym (table-past m workedCells k (l + 1) x)
+        ap (table k) (sym e) ∙ worked-exists B t (tableOf m old) .last k ∙ sym (table-past m workedCells k (l + 1) x)
     | inr x ↦ sym (used k (l + 1) a (omega arith) x)
   ]
 
@@ -121,7 +122,7 @@ module _ (B : Book) (few : B .trains ≤ 64) (t : ℕ) (old : List ℕ) where
         anew = λ k l a b c d.
             used k l a c d
             ∙ worked-exists B t (tableOf m old) .anew k l a b c d
-            ∙ cell-by-alike k B B a (books-alike-refl k B) T (tableOf m workedCells) l c d (next k l a c d)
+            ∙ cell-by-alike k B B a (books-alike-refl k B) table (tableOf m workedCells) l c d (next k l a c d)
             (λ u. sym (used l l (omega arith) (le-refl l) d));
         stand = λ k l a b c. used k l (omega arith) b c ∙ worked-exists B t (tableOf m old) .stand k l a b c;
       }
@@ -131,13 +132,14 @@ module _ (B : Book) (few : B .trains ≤ 64) (t : ℕ) (old : List ℕ) where
 
 -- ---- what is settled
 
-record Settles (B : Book) (t : ℕ) (before : Buffers) : Type 0 where
+record Settleable (B : Book) (t : ℕ) (before : Buffers) : Type 0 where
   after : Buffers
   total : ℕ
   settled : Settled B t before after total
 
-settles : (B : Book) (t : ℕ) (before : Buffers) → B .trains ≤ 64 → length (before .cells) ≡ 4096 → Settles B t before
-settles B t before few long =
+settleable : (B : Book) (t : ℕ) (before : Buffers) → B .trains ≤ 64 → length (before .cells) ≡ 4096
+    → Settleable B t before
+settleable B t before few long =
     let cells = workedCells B few t (before .cells) in
     let read : Policy = decide B (tableOf (B .trains) cells) in
     record {
@@ -169,7 +171,7 @@ plan-possible s before = elim (fine-or-refused (planVerdict s before)) [
   | inl fine ↦
       let told = accepted-of-plan s before fine in
       let L = lineOf (numbersOf s) in
-      let done = settles (bookOf L) (L .trains) before (told .1 .numbers .trains-most) (told .0 .cells) in
+      let done = settleable (bookOf L) (L .trains) before (told .1 .numbers .trains-most) (told .0 .cells) in
       record {
         after = done .after;
         answer = Accepted (done .total);
@@ -187,18 +189,21 @@ plan-possible s before = elim (fine-or-refused (planVerdict s before)) [
 -- ---- report
 
 module _ (s : List ℕ) (bytes : Bytes s) (i v : ℕ) (before : Buffers) where
+  -- the new delay can be put into an accepted sheet
+  amendable : AcceptedSheet s → 1 ≤ i → i ≤ trainsOf s → v ≤ 1440 → (t : List ℕ) × DelayReplaced s i v t
+  amendable ok least most small =
+      let room = delay-room s i v ok least most small in
+      let found = puttable s (40 + 33 * (i - 1)) 11 v bytes (omega (arith, room .least, room .within)) (omega arith) in
+      (found .result, record { bytes = found .bytes; put = found .put })
+
   when-fine : reportVerdict s i v before ≡ Fine → ReportPossible s i v before
   unfolding lineOf lineFrom
   when-fine fine =
       let told = accepted-of-report s i v before fine in
       let report = told .2 in
-      let room = delay-room s i v (told .1) (report .least) (report .most) (report .delay) in
-      let found = puttable s (40 + 33 * (i - 1)) 11 v bytes (omega (arith, room .least, room .within))
-      (omega (arith, room .small)) in
-      let t = found .result in
-      let put : DelayReplaced s i v t = record { bytes = found .bytes; put = found .put } in
+      let (t, put) = amendable (told .1) (report .least) (report .most) (report .delay) in
       let ok = replaced-accepted s t i v (told .1) (report .least) (report .most) put (report .delay) in
-      let done = settles (bookOf (lineOf (numbersOf t))) i before (ok .numbers .trains-most) (told .0 .cells) in
+      let done = settleable (bookOf (lineOf (numbersOf t))) i before (ok .numbers .trains-most) (told .0 .cells) in
       record {
         sheet = t;
         after = done .after;

@@ -13,8 +13,7 @@ use Rattle.lists.proofs.Run.{listed-each, listed-padded, padded-same}
 use Rattle.rail.specs.declared.Verdict.the-variants.{Fine}
 use Rattle.line.specs.Line.{Line, lineFrom}
 use Rattle.line.specs.Policy.{Policy, arrival, total}
-use Rattle.line.specs.Cells.{Table, bookOf, cellBy}
-use Rattle.line.specs.Cells.{Worked, decide}
+use Rattle.line.specs.Cells.{Table, bookOf, cellBy, Worked, decide}
 use Rattle.line.specs.Alike.{LinesAlike}
 use Rattle.line.specs.Ways.{Rows, tableFrom}
 use Rattle.line.proofs.Days.{same-days, same-total}
@@ -27,14 +26,14 @@ use Rattle.sheet.specs.Numbers.{numbersOf}
 use Rattle.sheet.specs.Checks.{sheetVerdict}
 use Rattle.cells.specs.Place.{place, tableOf}
 use Rattle.cells.specs.Shown.{byteOf, shown}
+use Rattle.cells.proofs.Shown.{shown-same}
 use Rattle.settle.specs.LineOf.{lineOf}
+use Rattle.settle.specs.Buffers.{Buffers, RightLengths}
 use Rattle.planner.specs.declared.Answer.{Answer}
 use Rattle.planner.specs.declared.Answer.the-variants.{Accepted}
-use Rattle.settle.specs.Buffers.{Buffers, RightLengths}
 use Rattle.planner.specs.Plan.{planVerdict, Planned, Plan}
-use Rattle.demands.specs.Sheets.{Leaves}
 use Rattle.planner.proofs.Refusals.{checks-right}
-use Rattle.cells.proofs.Shown.{shown-same}
+use Rattle.demands.specs.Sheets.{Leaves}
 
 -- ---- two tables that are equal at a few pairs, since the lists of their values are
 
@@ -42,7 +41,7 @@ use Rattle.cells.proofs.Shown.{shown-same}
 unfoldable pub pairRows : ℕ → Table → Rows
 pairRows n f = listed (λ k. listed (f k) k (n + 1 - k)) 1 n
 
-pub same-pairs : (f g : Table) (n : ℕ) → pairRows n f ≡ pairRows n g → (k l : ℕ) → 1 ≤ k → k ≤ l → l ≤ n → f k l ≡ g k l
+same-pairs : (f g : Table) (n : ℕ) → pairRows n f ≡ pairRows n g → (k l : ℕ) → 1 ≤ k → k ≤ l → l ≤ n → f k l ≡ g k l
 unfolding pairRows
 same-pairs f g n e k l u v w =
     listed-each 0 (f k) (g k) k (n + 1 - k) (listed-each [] _ _ 1 n e k u (omega arith)) l v (omega arith)

@@ -6,7 +6,8 @@ use Rattle.demands.proofs.Runs.{demand-3}
 use Rattle.demands.proofs.Sheets.{answers-a, answers-b, answers-b13}
 use Rattle.demands.proofs.Reports.{answers-b7, answers-b8}
 use Rattle.demands.proofs.Useless.{refuses-all-breaks, same-decisions-break, all-keep-breaks}
-use Rattle.demands.proofs.Useless.{does-nothing-breaks, stays-blank-breaks, repeats-plan-breaks, writes-early-breaks}
+use Rattle.demands.proofs.Useless.{does-nothing-breaks, stays-blank-breaks, repeats-plan-breaks}
+use Rattle.demands.proofs.Useless.{writes-early-breaks}
 
 pub promises : Promises
 promises =

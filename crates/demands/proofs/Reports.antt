@@ -11,35 +11,32 @@ use Rattle.bits.specs.Field.{bitAt, fieldOf}
 use Rattle.line.specs.Sum.{sum_from_to_}
 use Rattle.line.specs.Line.{Line, lineFrom}
 use Rattle.line.specs.Policy.{arrival, excess, departure}
-use Rattle.line.specs.Cells.{leaving, aboard, runFrom, excessOn, arrivalOn, keepCost, goCost, cellBy}
-use Rattle.line.specs.Cells.{choice, begins, policyBy, decide}
+use Rattle.line.specs.Cells.{leaving, aboard, runFrom, excessOn, arrivalOn, keepCost, goCost, cellBy, choice, begins}
+use Rattle.line.specs.Cells.{policyBy, decide}
 use Rattle.line.specs.Alike.{LinesAlike}
 use Rattle.line.specs.Ways.{Rows}
 use Rattle.line.specs.Cases.{lineB}
+use Rattle.line.proofs.Days.{lines-alike-trans}
 use Rattle.sheet.specs.Format.{trainsOf, entry}
 use Rattle.sheet.specs.Numbers.{Numbers, numbersOf}
 use Rattle.sheet.specs.Accepted.{SameNumbers, withDelay}
+use Rattle.sheet.specs.Pairs.{fieldsUpTo, fieldOfPair, passengersOfPair}
 use Rattle.sheet.proofs.Facts.{accepted-of-fine, fine-of-accepted}
 use Rattle.sheet.proofs.Meaning.{same-both, same-sym}
-use Rattle.sheet.proofs.Amend.{replaced-numbers}
-use Rattle.sheet.specs.Pairs.{fieldsUpTo, fieldOfPair, passengersOfPair}
+use Rattle.sheet.proofs.Amend.{replaced-numbers, with-delay-same}
 use Rattle.settle.specs.LineOf.{lineOf}
-use Rattle.planner.specs.declared.Answer.{Answer}
 use Rattle.settle.specs.Buffers.{Buffers, RightLengths}
 use Rattle.settle.proofs.Lines.{lines-of-same}
+use Rattle.planner.specs.declared.Answer.{Answer}
 use Rattle.planner.specs.Outcome.{answerNumber}
-use Rattle.demands.specs.Sheets.{sheetB, Leaves}
-use Rattle.demands.specs.Sheets.{keepKeep, rowsB7, rowsB8, ReportAfterB4, AnswersB7, AnswersB8}
+use Rattle.demands.specs.Sheets.{sheetB, Leaves, keepKeep, rowsB7, rowsB8, ReportAfterB4, AnswersB7, AnswersB8}
 use Rattle.demands.specs.Runs.{InRun, planned, reported, ReportInRun}
 use Rattle.demands.proofs.Runs.{demand-3}
-use Rattle.sheet.proofs.Amend.{with-delay-same}
-use Rattle.line.proofs.Days.{lines-alike-trans}
 use Rattle.demands.proofs.Printed.{pairRows, lines-same, printedCells, Printed, leaves}
 use Rattle.demands.proofs.Sheets.{sheet-b-accepted, answers-b}
 
 -- ---- the lines of the sheet after one report and after both
 
--- the numbers of B with the first report, and with both
 abbrev numbersB7 : Numbers
 numbersB7 = withDelay (numbersOf sheetB) 1 5
 
@@ -89,7 +86,7 @@ module _ (after4 : Buffers) (a4 : Answer) (t : List ℕ) (before after : Buffers
   run-b7 = reported sheetB 1 5 before t after a run-b4 (h .report)
 
   step-b7 : ReportInRun sheetB 1 5 before t after a
-  step-b7 = demand-3 .every-report sheetB 1 5 before t after a run-b4 (h .report)
+  step-b7 = demand-3 .of-report-in-run sheetB 1 5 before t after a run-b4 (h .report)
 
   zero-b7 : answerNumber a ≡ 0
   zero-b7 = step-b7 .accepts (h .right) (omega arith) (omega (arith, trains-b)) (omega arith)
@@ -110,7 +107,7 @@ pub answers-b8 : AnswersB8
 unfolding lineFrom
 answers-b8 after4 a4 t before7 after7 a7 u before after a h cells right report =
     let run = subst (InRun t) (sym cells) (run-b7 after4 a4 t before7 after7 a7 h) in
-    let step = demand-3 .every-report t 2 6 before u after a run report in
+    let step = demand-3 .of-report-in-run t 2 6 before u after a run report in
     let same = same-b7 after4 a4 t before7 after7 a7 h in
     let second : 2 ≤ trainsOf t = omega (arith, same .trains, trains-b) in
     let zero = step .accepts right (omega arith) second (omega arith) in

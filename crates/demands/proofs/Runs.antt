@@ -30,7 +30,7 @@ use Rattle.sheet.proofs.Meaning.{same-sym}
 use Rattle.sheet.proofs.Amend.{replaced-numbers, replaced-accepted}
 use Rattle.cells.specs.Place.{tableOf, InUse}
 use Rattle.cells.proofs.Places.{table-in}
-use Rattle.amend.specs.Reported.{reportedVerdict, Reportable}
+use Rattle.amend.specs.Checks.{ownVerdict, Reportable}
 use Rattle.amend.proofs.Reportable.{fine-of-later}
 use Rattle.settle.specs.LineOf.{lineOf}
 use Rattle.settle.specs.Buffers.{Buffers, RightLengths}
@@ -40,7 +40,7 @@ use Rattle.planner.specs.declared.Answer.{Answer}
 use Rattle.planner.specs.Outcome.{answerNumber, answerTotal}
 use Rattle.planner.specs.Plan.{planVerdict, Planned, Plan}
 use Rattle.planner.specs.Report.{reportVerdict, Reported, Report}
-use Rattle.planner.proofs.Refusals.{buffers-refusal, checks-right, accepted-of-plan, afterLengths, fine-of-reports}
+use Rattle.planner.proofs.Refusals.{buffers-refusal, checks-right, accepted-of-plan, afterLengthsVerdict, fine-of-facts}
 use Rattle.planner.proofs.Refusals.{accepted-of-report}
 use Rattle.planner.proofs.Taken.{settled-planned}
 use Rattle.planner.proofs.Outcome.{outcome-accepted, planned-same}
@@ -121,11 +121,11 @@ module _ (s : List ℕ) (i v : ℕ) (before : Buffers) (t : List ℕ) (after : B
     (standing : Standing s (before .cells)) (h : Report s i v before t after a) where
   checked : answerNumber a ≡ 0 → reportVerdict s i v before ≡ Fine
   unfolding reportVerdict
-  checked = fine-of-zero (afterLengths s i v (before .cells)) _ before after a (h .outcome)
+  checked = fine-of-zero (afterLengthsVerdict s i v (before .cells)) _ before after a (h .outcome)
 
   zero : reportVerdict s i v before ≡ Fine → answerNumber a ≡ 0
   unfolding reportVerdict
-  zero = zero-of-fine (afterLengths s i v (before .cells)) _ before after a (h .outcome)
+  zero = zero-of-fine (afterLengthsVerdict s i v (before .cells)) _ before after a (h .outcome)
 
   accepts : RightLengths before → 1 ≤ i → i ≤ trainsOf s → v ≤ 1440 → answerNumber a ≡ 0
   unfolding reportVerdict
@@ -138,12 +138,12 @@ module _ (s : List ℕ) (i v : ℕ) (before : Buffers) (t : List ℕ) (after : B
         later = λ k l x y z. within s (before .cells) standing k l (omega arith) y z;
       } in
       zero
-      (checks-right before (afterLengths s i v (before .cells)) right
-      ∙ fine-of-reports s i v (before .cells) (standing .ok) report)
+      (checks-right before (afterLengthsVerdict s i v (before .cells)) right
+      ∙ fine-of-facts s i v (before .cells) (standing .ok) report)
 
   -- neither the sheet nor the later rows refuse
   refusals : (r : Refusal) → reportVerdict s i v before ≡ Refused r → OfItself i r
-  unfolding reportVerdict reportedVerdict
+  unfolding reportVerdict ownVerdict
   refusals =
       let P : Refusal → Type 0 = OfItself i in
       let silent : (w : Verdict) → w ≡ Fine → Only P w = λ w fine r e. refused-not-fine (sym e ∙ fine) in
@@ -264,5 +264,5 @@ pub demand-3 : Demand3
 demand-3 =
     record {
       begins = begin;
-      every-report = λ s i v before t after a run. in-run s i v before t after a (standing-in-run run);
+      of-report-in-run = λ s i v before t after a run. in-run s i v before t after a (standing-in-run run);
     }

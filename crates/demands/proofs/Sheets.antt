@@ -1,17 +1,18 @@
--- What plan answers on sheets A, B and B with T 13: each is accepted and its line is that of its case, by computing both.
+-- What plan answers on sheets A, B and B with T 13: each is accepted and its line is that of its case, by computing
+-- both.
 -- Assumes nothing.
 use mathlib.Core.Path.{_≡_, refl}
 use mathlib.Core.List.{[], _∷_}
 use Rattle.lists.specs.Choice.{ifBelow}
 use Rattle.lists.specs.Run.{runOf, listed}
+use Rattle.bits.specs.Field.{bitAt, fieldOf}
 use Rattle.rail.specs.declared.Verdict.the-variants.{Fine}
 use Rattle.rail.specs.Verdict.{refuse_when_below_, _andThen_, firstOf}
-use Rattle.bits.specs.Field.{bitAt, fieldOf}
 use Rattle.line.specs.Sum.{sum_from_to_}
 use Rattle.line.specs.Line.{lineFrom}
 use Rattle.line.specs.Policy.{arrival, excess, departure}
-use Rattle.line.specs.Cells.{leaving, aboard, runFrom, excessOn, arrivalOn, keepCost, goCost, cellBy}
-use Rattle.line.specs.Cells.{choice, begins, policyBy, decide}
+use Rattle.line.specs.Cells.{leaving, aboard, runFrom, excessOn, arrivalOn, keepCost, goCost, cellBy, choice, begins}
+use Rattle.line.specs.Cells.{policyBy, decide}
 use Rattle.line.specs.Alike.{LinesAlike}
 use Rattle.line.specs.Cases.{lineA, lineB, delaysB}
 use Rattle.sheet.specs.Format.{entry, bitsOf, bytesOf, pairsOf}
@@ -22,8 +23,8 @@ use Rattle.sheet.specs.Checks.{headVerdict, fillingVerdict, bodyVerdict, sheetV
 use Rattle.sheet.specs.SheetA.{sheetA}
 use Rattle.sheet.proofs.Sample.{sheet-a-accepted}
 use Rattle.settle.specs.LineOf.{lineOf}
-use Rattle.demands.specs.Sheets.{sheetB, sheetB13, AnswersA, decisionsB, rowsB, AnswersB}
-use Rattle.demands.specs.Sheets.{keepKeep, rowsB13, AnswersB13}
+use Rattle.demands.specs.Sheets.{sheetB, sheetB13, AnswersA, decisionsB, rowsB, AnswersB, keepKeep, rowsB13}
+use Rattle.demands.specs.Sheets.{AnswersB13}
 use Rattle.demands.proofs.Printed.{pairRows, lines-same, printedCells, Printed, leaves}
 
 -- ---- the sheets are accepted
@@ -33,7 +34,7 @@ unfolding sheetVerdict headVerdict rangesVerdict bodyVerdict numbersVerdict trai
     fillingVerdict refuse_when_below_ _andThen_ firstOf runOf ifBelow bitAt fieldOf entry bitsOf bytesOf pairsOf
 sheet-b-accepted = refl
 
-pub sheet-b13-accepted : sheetVerdict sheetB13 ≡ Fine
+sheet-b13-accepted : sheetVerdict sheetB13 ≡ Fine
 unfolding sheetVerdict headVerdict rangesVerdict bodyVerdict numbersVerdict trainVerdict earliestOf passengersVerdict
     fillingVerdict refuse_when_below_ _andThen_ firstOf runOf ifBelow bitAt fieldOf entry bitsOf bytesOf pairsOf
 sheet-b13-accepted = refl

@@ -1,5 +1,5 @@
--- No useless version keeps the contracts: on sheet B the answer is 176, and decision byte 2 is 0; with T 13 it is 1, and
--- so it is after the report of b7, which answers 68.
+-- No useless version keeps the contracts: on sheet B the answer is 176, and decision byte 2 is 0; with T 13 it is 1,
+-- and so it is after the report of b7, which answers 68.
 -- Assumes nothing.
 use mathlib.Core.Path.{_≡_, sym, ap, subst, _∙_}
 use mathlib.Core.List.{List}
@@ -11,7 +11,7 @@ use Rattle.lists.proofs.Order.{zero-not-one}
 use Rattle.lists.proofs.Run.{padded-nth}
 use Rattle.sheet.proofs.Facts.{accepted-of-fine}
 use Rattle.cells.specs.Shown.{shown}
-use Rattle.amend.specs.Reported.{FirstOver}
+use Rattle.amend.specs.Checks.{FirstOver}
 use Rattle.planner.specs.Outcome.{answerTotal}
 use Rattle.demands.specs.Sheets.{sheetB, decisionsB, keepKeep}
 use Rattle.demands.specs.Useless.{RefusesAllBreaks, SameDecisionsBreak, AllKeepBreaks, DoesNothingBreaks}

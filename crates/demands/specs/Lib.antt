@@ -1,4 +1,5 @@
-pub mod Demands
+pub mod Answered
+pub mod Least
 pub mod Runs
 pub mod Sheets
 pub mod Useless

@@ -1,6 +1,9 @@
--- All that is promised of plan and report, in one record.
+-- All that is promised of plan and report, in one record: the three demands, and document 01, "What the contracts have
+-- to say".
+--   Promises   that record
 -- Assumes nothing.
-use Rattle.demands.specs.Demands.{Demand1, Demand2}
+use Rattle.demands.specs.Answered.{Demand1}
+use Rattle.demands.specs.Least.{Demand2}
 use Rattle.demands.specs.Runs.{Demand3}
 use Rattle.demands.specs.Sheets.{AnswersA, AnswersB, AnswersB13, AnswersB7, AnswersB8}
 use Rattle.demands.specs.Useless.{RefusesAllBreaks, SameDecisionsBreak, AllKeepBreaks, DoesNothingBreaks}

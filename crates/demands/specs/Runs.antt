@@ -4,7 +4,7 @@
 --   Agrees m after a after′ a′  two accepted calls agree in total, decisions, delays and working cells in use
 --   OfItself i r                the refusal r is for the report itself: its buffers, its train or its delay
 --   ReportInRun s i v before t after a     what demand 3 says of one report of a run
---   Begun s lent                a run that begins with the sheet s
+--   Begun s lent                an accepted plan of the sheet s, with which a run begins
 --   Demand3                     the demand
 -- Assumes nothing.
 use Prim.Native.Nat.{ℕ, _≤_}
@@ -69,7 +69,6 @@ pub record ReportInRun (s : List ℕ) (i v : ℕ) (before : Buffers) (t : List �
   -- and after every report plan accepts the sheet as it stands.
   pub stands : AcceptedSheet t
 
--- an accepted plan of the sheet s, with which a run begins
 pub record Begun (s : List ℕ) (lent : Buffers) : Type 0 where
   pub after : Buffers
   pub answer : Answer
@@ -79,5 +78,5 @@ pub record Begun (s : List ℕ) (lent : Buffers) : Type 0 where
 pub record Demand3 : Type 0 where
   -- Every accepted sheet begins a run, so that the rest is not said of nothing.
   pub begins : (s : List ℕ) (lent : Buffers) → AcceptedSheet s → RightLengths lent → Begun s lent
-  pub every-report : (s : List ℕ) (i v : ℕ) (before : Buffers) (t : List ℕ) (after : Buffers) (a : Answer)
+  pub of-report-in-run : (s : List ℕ) (i v : ℕ) (before : Buffers) (t : List ℕ) (after : Buffers) (a : Answer)
       → InRun s (before .cells) → Report s i v before t after a → ReportInRun s i v before t after a

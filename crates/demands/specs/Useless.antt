@@ -7,8 +7,8 @@
 --   StaysBlankBreaks     nor do blank ones
 --   RepeatsPlanBreaks    one that plans honestly and then merely repeats its plan at each report: after b4 the report
 --                        of b7 leaves other decisions, other delays and another total than the plan
---   WritesEarlyBreaks    one that writes the sheet before it tests 12: with a later cell over the limit the report of b7
---                        is 12, at the first such row, and leaves sheet B
+--   WritesEarlyBreaks    one that writes the sheet before it tests 12: with a later cell over the limit the report of
+--                        b7 is refused with 12, at the first such row, and leaves sheet B as it was
 -- Assumes nothing.
 use Prim.Native.Nat.{ℕ}
 use mathlib.Core.Path.{_≡_}
@@ -22,10 +22,10 @@ use Rattle.cells.specs.Shown.{shown}
 use Rattle.planner.specs.declared.Answer.{Answer}
 use Rattle.planner.specs.declared.Answer.the-variants.{Refused as AnswerRefused}
 use Rattle.settle.specs.Buffers.{Buffers, RightLengths}
-use Rattle.amend.specs.Reported.{FirstOver}
+use Rattle.amend.specs.Checks.{FirstOver}
 use Rattle.planner.specs.Plan.{Plan}
 use Rattle.planner.specs.Report.{Report}
-use Rattle.demands.specs.Demands.{Carries}
+use Rattle.demands.specs.Answered.{Carries}
 use Rattle.demands.specs.Sheets.{sheetB, sheetB13, decisionsB, ReportAfterB4}
 
 abbrev pub RefusesAllBreaks : Type 0

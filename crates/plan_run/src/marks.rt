@@ -1,4 +1,4 @@
-// What the working cells hold before the first plan, so that a place that was not written is seen:
+// What the working cells hold before the first step, so that a place that was not written is seen:
 // each place, from 1, times 1,000,003.
 
 // Cut, so that the product fits; no list is that long.

@@ -33,7 +33,7 @@ fn trains(sheet: &[u8]) -> usize
     if 0 < sheet.len() { half(sheet[0]) } else { 0 }
 }
 
-// The cells in use, of an accepted sheet alone.
+// The cells in use, where the call was accepted.
 fn rows(sheet: &[u8], a: Answer, cells: &[u64]) {
     if a.number() == 0 {
         printed::rows(cells, trains(sheet));

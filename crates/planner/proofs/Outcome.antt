@@ -1,5 +1,5 @@
--- What a call answers, refused and accepted; and that the promises leave nothing open: plans agree on the trains in use,
--- and nothing else of them is shown; a report's sheet and cells are determined, and the rest is read off them.
+-- What a call answers, refused and accepted; and that the promises leave nothing open: plans agree on the trains in
+-- use, and nothing else of them is shown; a report's sheet and cells are determined, and the rest is read off them.
 -- Assumes nothing.
 use mathlib.Core.Path.{_≡_, ap, sym, subst, _∙_}
 use mathlib.Core.List.{List}

@@ -19,8 +19,8 @@ use Rattle.sheet.specs.Checks.{sheetVerdict}
 use Rattle.sheet.specs.Accepted.{AcceptedSheet}
 use Rattle.sheet.proofs.Facts.{accepted-of-fine, fine-of-accepted}
 use Rattle.sheet.proofs.Refusals.{sheet-refusal-blanks}
-use Rattle.amend.specs.Reported.{reportedVerdict, Reportable}
-use Rattle.amend.proofs.Reportable.{reportable-of-fine, fine-of-reportable, reported-refusal-blanks}
+use Rattle.amend.specs.Checks.{ownVerdict, Reportable}
+use Rattle.amend.proofs.Reportable.{reportable-of-fine, fine-of-reportable, own-refusal-blanks}
 use Rattle.settle.specs.Buffers.{Buffers, RightLengths}
 use Rattle.planner.specs.Outcome.{bufferLengthsVerdict, buffersVerdict}
 use Rattle.planner.specs.Plan.{planVerdict}
@@ -93,34 +93,34 @@ accepted-of-plan s b fine =
 
 module _ (s : List ℕ) (i v : ℕ) (cells : List ℕ) where
   -- what follows the lengths
-  abbrev pub afterLengths : Verdict
-  afterLengths = sheetVerdict s andThen reportedVerdict (trainsOf s) i v cells
+  abbrev pub afterLengthsVerdict : Verdict
+  afterLengthsVerdict = sheetVerdict s andThen ownVerdict (trainsOf s) i v cells
 
-  pub reports-of-fine : afterLengths ≡ Fine → AcceptedSheet s × Reportable (trainsOf s) i v cells
-  reports-of-fine e =
+  pub facts-of-fine : afterLengthsVerdict ≡ Fine → AcceptedSheet s × Reportable (trainsOf s) i v cells
+  facts-of-fine e =
       let both = then-fine (sheetVerdict s) _ e in
       (accepted-of-fine s (both .0), reportable-of-fine _ i v cells (both .1))
 
-  pub fine-of-reports : AcceptedSheet s → Reportable (trainsOf s) i v cells → afterLengths ≡ Fine
-  fine-of-reports ok h = fine-then (fine-of-accepted s ok) (fine-of-reportable _ i v cells h)
+  pub fine-of-facts : AcceptedSheet s → Reportable (trainsOf s) i v cells → afterLengthsVerdict ≡ Fine
+  fine-of-facts ok h = fine-then (fine-of-accepted s ok) (fine-of-reportable _ i v cells h)
 
-  pub reports-blanks : (r : Refusal) → afterLengths ≡ Refused r → blanksOf r ≡ true
-  reports-blanks =
+  pub after-lengths-blanks : (r : Refusal) → afterLengthsVerdict ≡ Refused r → blanksOf r ≡ true
+  after-lengths-blanks =
       only-then (λ (r : Refusal). blanksOf r ≡ true) (sheetVerdict s) _ (sheet-refusal-blanks s)
-      (reported-refusal-blanks (trainsOf s) i v cells)
+      (own-refusal-blanks (trainsOf s) i v cells)
 
 -- with buffers and a sheet that are right the report's own checks decide
-pub report-asks : (s : List ℕ) (i v : ℕ) (b : Buffers) → RightLengths b → AcceptedSheet s
-    → reportVerdict s i v b ≡ reportedVerdict (trainsOf s) i v (b .cells)
+pub own-decides : (s : List ℕ) (i v : ℕ) (b : Buffers) → RightLengths b → AcceptedSheet s
+    → reportVerdict s i v b ≡ ownVerdict (trainsOf s) i v (b .cells)
 unfolding reportVerdict
-report-asks s i v b right ok =
-    checks-right b (afterLengths s i v (b .cells)) right
+own-decides s i v b right ok =
+    checks-right b (afterLengthsVerdict s i v (b .cells)) right
     ∙ sym (then-pass (sheetVerdict s) _ _ (fine-of-accepted s ok) refl)
 
 pub accepted-of-report : (s : List ℕ) (i v : ℕ) (b : Buffers) → reportVerdict s i v b ≡ Fine
     → RightLengths b × AcceptedSheet s × Reportable (trainsOf s) i v (b .cells)
 unfolding reportVerdict
 accepted-of-report s i v b fine =
-    let both = checks-fine b (afterLengths s i v (b .cells)) fine in
-    let told = reports-of-fine s i v (b .cells) (both .1) in
+    let both = checks-fine b (afterLengthsVerdict s i v (b .cells)) fine in
+    let told = facts-of-fine s i v (b .cells) (both .1) in
     (both .0, told .0, told .1)

@@ -1,5 +1,5 @@
--- From a sheet taken apart to what is settled on it: the columns hold the sheet's numbers, with a new delay those of the
--- amended sheet, and what is settled on them is settled for the sheet's line. And what a refusal leaves.
+-- From a sheet taken apart to what is settled on it: the columns hold the sheet's numbers, with a new delay those of
+-- the amended sheet, and what is settled on them is settled for the sheet's line. And what a refusal leaves.
 -- Assumes nothing.
 use mathlib.Core.Path.{_≡_, ap, sym, subst, _∙_}
 use mathlib.Core.Bool.{false}
@@ -49,12 +49,12 @@ decoding-same {s = s} {d = d} e h = subst (λ (x : Verdict). Decoding x s d) e h
 
 -- ---- the numbers of the columns
 
-module _ (v : Verdict) (s : List ℕ) (d : Decoded) (m T : ℕ) (told : Decoding v s d)
+module _ (checks : Verdict) (s : List ℕ) (d : Decoded) (m T : ℕ) (told : Decoding checks s d)
     (answer : d .answer ≡ ReadAccepted m T) where
-  passed : (v ≡ Fine) × (m ≡ trainsOf s) × (T ≡ periodOf s)
-  passed = accepted-fine v _ _ (sym answer ∙ told .answer)
+  passed : (checks ≡ Fine) × (m ≡ trainsOf s) × (T ≡ periodOf s)
+  passed = accepted-fine checks _ _ (sym answer ∙ told .answer)
 
-  pub taken-fine : v ≡ Fine
+  pub taken-fine : checks ≡ Fine
   taken-fine = passed .0
 
   pub taken-trains : m ≡ trainsOf s
@@ -81,13 +81,13 @@ module _ (v : Verdict) (s : List ℕ) (d : Decoded) (m T : ℕ) (told : Decoding
         (d .columns) columns)
 
     -- with the new delay they are those of the amended sheet
-    pub amended-taken : (i w : ℕ) (t : List ℕ) → 1 ≤ i → i ≤ trainsOf s → DelayReplaced s i w t
-        → SameNumbers (numbersIn m T (listsOf (withDelayIn (d .columns) i w))) (numbersOf t)
-    amended-taken i w t a b put =
-        same-both _ _ (withDelay (numbersOf s) i w)
-        (amended-same (d .columns) i w taken-lengths m T (numbersOf s) a (omega (arith, ok .numbers .trains-most))
+    pub amended-taken : (i v : ℕ) (t : List ℕ) → 1 ≤ i → i ≤ trainsOf s → DelayReplaced s i v t
+        → SameNumbers (numbersIn m T (listsOf (withDelayIn (d .columns) i v))) (numbersOf t)
+    amended-taken i v t a b put =
+        same-both _ _ (withDelay (numbersOf s) i v)
+        (amended-same (d .columns) i v taken-lengths m T (numbersOf s) a (omega (arith, ok .numbers .trains-most))
         taken-same)
-        (replaced-numbers s t i w ok a b put)
+        (replaced-numbers s t i v ok a b put)
 
 pub sound-of-same : (m T : ℕ) (L : Lists) (N : Numbers) → Lengths 64 2080 L → SameNumbers (numbersIn m T L) N
     → InRange N → Sound m T L

@@ -1,7 +1,7 @@
 -- What every call of plan and of report answers, and what it leaves when it is refused. Document 01, "Numbers of
 -- refusal, in the order of checking".
 --   answerNumber a, answerPlace a, answerTotal a     what the paper has the answer a carry
---   bufferLengthsVerdict, buffersVerdict     the check of the lengths, by numbers and of buffers
+--   bufferLengthsVerdict, buffersVerdict     the check of the three lengths, given as numbers; and of buffers
 --   RefusedFor r before after a              what a refusal leaves
 --   Outcome checks Stored before after a     what a call answers and leaves, by the verdict of all its checks; Stored
 --                                            says what an accepted one leaves
@@ -52,7 +52,8 @@ pub record RefusedFor (r : Refusal) (before after : Buffers) (a : Answer) : Type
   pub delays : after .delays ≡ (if blanksOf r then replicate 64 0 else before .delays)
   pub cells : after .cells ≡ before .cells
 
--- Number and place follow from the two other fields; they say in the paper's numbers which check failed.
+-- In plan and in report number and place follow from the two other fields; they say in the paper's numbers which check
+-- failed.
 pub record Outcome (checks : Verdict) (Stored : Type 0) (before after : Buffers) (a : Answer) : Type 0 where
   pub number : answerNumber a ≡ numberIn checks
   pub place : answerPlace a ≡ placeIn checks

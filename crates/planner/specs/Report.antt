@@ -16,7 +16,7 @@ use Rattle.sheet.specs.Format.{trainsOf}
 use Rattle.sheet.specs.Numbers.{numbersOf}
 use Rattle.sheet.specs.Checks.{sheetVerdict}
 use Rattle.sheet.specs.Accepted.{DelayReplaced}
-use Rattle.amend.specs.Reported.{reportedVerdict}
+use Rattle.amend.specs.Checks.{ownVerdict}
 use Rattle.settle.specs.LineOf.{lineOf}
 use Rattle.settle.specs.Buffers.{Buffers}
 use Rattle.settle.specs.Settled.{Settled}
@@ -26,7 +26,7 @@ use Rattle.planner.specs.Outcome.{answerTotal, buffersVerdict, Outcome}
 
 -- the lengths, the sheet, then 11, 6 and 12
 unfoldable pub reportVerdict : List ℕ → ℕ → ℕ → Buffers → Verdict
-reportVerdict s i v b = buffersVerdict b andThen sheetVerdict s andThen reportedVerdict (trainsOf s) i v (b .cells)
+reportVerdict s i v b = buffersVerdict b andThen sheetVerdict s andThen ownVerdict (trainsOf s) i v (b .cells)
 
 pub record Reported (s : List ℕ) (i v : ℕ) (before : Buffers) (t : List ℕ) (after : Buffers) (a : Answer) : Type 0 where
   pub answer : a ≡ Accepted (answerTotal a)

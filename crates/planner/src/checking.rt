@@ -6,9 +6,9 @@ ghost use Rattle.rail.specs.Verdict.{_andThen_};
 ghost use Rattle.sheet.specs.Format.{trainsOf};
 ghost use Rattle.sheet.specs.Checks.{sheetVerdict};
 ghost use Rattle.decoder.specs.Decode.{Decoding};
-ghost use Rattle.amend.specs.Reported.{reportedVerdict};
+ghost use Rattle.amend.specs.Checks.{ownVerdict};
 ghost use Rattle.planner.specs.Outcome.{bufferLengthsVerdict};
-use amend::check_reported;
+use amend::check_own;
 use decoder::Decoded;
 use decoder::Reading;
 use decoder::decode;
@@ -58,14 +58,14 @@ pub fn check_report(
     ensures { λ r. ⌜ Decoding
         (bufferLengthsVerdict (length (now (cells .entry))) decisions delays
         andThen sheetVerdict (now (sheet .entry))
-        andThen reportedVerdict (trainsOf (now (sheet .entry))) (train .0) delay
+        andThen ownVerdict (trainsOf (now (sheet .entry))) (train .0) delay
         (now (cells .entry)))
         (now (sheet .entry)) r ⌝ }
 {
     let checked = check_plan(sheet, cells.len(), decisions, delays);
     let answer = checked.answer;
     if let Reading::Accepted(m, _) = answer {
-        let own = check_reported(m, train, delay, cells);
+        let own = check_own(m, train, delay, cells);
         if let Verdict::Refused(refusal) = own {
             return refused(refusal);
         }

@@ -1,5 +1,5 @@
 // Plan: the policy of least total for a sheet, its delays and its total, or a refusal by number.
-// Report: the same after one train's source delay changed, worked from that train down.
+// Report: the same after one train's source delay changed, worked from that train's row to row 1.
 // Neither has a `requires`: any sheet of bytes, any report and any buffers get an answer.
 mod checking;
 
@@ -105,9 +105,10 @@ pub fn plan(sheet: &[u8], cells: &mut [u64], decisions: &mut [u8], delays: &mut 
     }
 }
 
-// Takes a new source delay of one train: into the sheet, and into the cells of that train and of
-// those before it. Decisions, delays and the answer are then those of the sheet as it stands. A
-// refusal leaves sheet and cells as they were, and blanks as in plan.
+// Takes a new source delay of one train: puts it into the sheet, and works anew the rows of that
+// train and of those before it. On cells that a plan left, decisions, delays and answer are then
+// those of a plan of the sheet as it stands. A refusal leaves sheet and cells as they were, and
+// blanks as in plan.
 pub fn report(
     sheet: &mut [u8],
     train: Train,

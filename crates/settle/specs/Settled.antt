@@ -1,5 +1,5 @@
--- What the work on accepted numbers leaves, in a plan and in a report. Document 01, "Four operations", report: rows 1 to
--- that train are worked anew from the later rows as they stand; decisions follow by comparing the two choices in the
+-- What the work on accepted numbers leaves, in a plan and in a report. Document 01, "Four operations", report: rows 1
+-- to that train are worked anew from the later rows as they stand; decisions follow by comparing the two choices in the
 -- cells, and delays by following them; the total is cell (1, 1). In a plan that train is the last.
 --   Settled B t before after n   that, for rows 1 to t of the book B, n being the total
 -- Assumes nothing.

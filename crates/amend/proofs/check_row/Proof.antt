@@ -5,7 +5,7 @@ use mathlib.Core.Path.{refl}
 use Prim.Native.Nat.{_+_, _-_}
 use native.Mathlib.Omega.{arith}
 use Rattle.rail.proofs.Checks.{Searching, search-first, search-next, search-stop, search-end, hit, miss}
-use Rattle.amend.specs.Reported.{cellVerdict, rowVerdict}
+use Rattle.amend.specs.Checks.{cellVerdict, rowVerdict}
 use Rattle.amend.proofs.check_row.Statement.{statement}
 use Rattle.amend.proofs.check_row.Tie as tie
 

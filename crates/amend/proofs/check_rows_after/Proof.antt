@@ -6,7 +6,7 @@ use Prim.Native.Nat.{ℕ, _+_, _-_, _≤_}
 use native.Mathlib.Omega.{arith}
 use Rattle.rail.specs.Verdict.{firstOf}
 use Rattle.rail.proofs.Checks.{Searching, search-first, search-next, search-stop, search-end}
-use Rattle.amend.specs.Reported.{rowVerdict, laterVerdict}
+use Rattle.amend.specs.Checks.{rowVerdict, laterVerdict}
 use Rattle.amend.proofs.check_rows_after.Statement.{statement}
 use Rattle.amend.proofs.check_rows_after.Tie as tie
 

@@ -9,11 +9,11 @@ use Rattle.sheet.specs.Numbers.{numbersOf}
 use Rattle.sheet.specs.Accepted.{AcceptedSheet}
 use Rattle.sheet.proofs.Amend.{replaced-accepted}
 use Rattle.decoder.proofs.Answers.{refused-verdict}
-use Rattle.amend.specs.Reported.{Reportable}
+use Rattle.amend.specs.Checks.{Reportable}
 use Rattle.amend.proofs.Amended.{amended-lengths, delay-room}
 use Rattle.settle.specs.Buffers.{Buffers, buffers, RightLengths}
 use Rattle.planner.specs.Report.{reportVerdict}
-use Rattle.planner.proofs.Refusals.{right-or-unwritten, afterLengths, accepted-of-report}
+use Rattle.planner.proofs.Refusals.{right-or-unwritten, afterLengthsVerdict, accepted-of-report}
 use Rattle.planner.proofs.Taken.{taken-fine, taken-trains, taken-lengths, amended-taken, sound-of-same}
 use Rattle.planner.proofs.Taken.{settled-of-same, refused-for}
 use Rattle.planner.proofs.Outcome.{outcome-accepted, outcome-refused}
@@ -115,8 +115,8 @@ returns c =
     let verdict = refused-verdict _ _ _ (sym (told .answer .given .1) ∙ checked .answer) in
     record {
       outcome = outcome-refused _ _ lent _ _ _ (sym verdict)
-          (refused-for _ lent _ _ (right-or-unwritten lent (afterLengths _ _ _ _) _ verdict) (refused .0) (refused .1)
-          (refused .2) refl);
+          (refused-for _ lent _ _ (right-or-unwritten lent (afterLengthsVerdict _ _ _ _) _ verdict) (refused .0)
+          (refused .1) (refused .2) refl);
       kept = λ r e. refl;
     }
 

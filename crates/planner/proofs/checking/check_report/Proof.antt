@@ -20,8 +20,8 @@ enum-known-answer : tie.Need-enum-known-answer
 enum-known-answer c = search needs
 
 -- the lengths are right, and the sheet has at most 64 trains
-check-reported-requires : tie.Need-check-reported-requires
-check-reported-requires c κs =
+check-own-requires : tie.Need-check-own-requires
+check-own-requires c κs =
     let checked = c .before .before .before .check-plan .ensures in
     let answer = c .before .answer .given .1 in
     let both = then-fine _ (sheetVerdict _) (taken-fine _ _ _ _ _ checked answer) in
@@ -42,7 +42,7 @@ returns c =
     let checked = told .before .before .check-plan .ensures in
     let fine = taken-fine _ _ _ _ _ checked (told .answer .given .1) in
     let trains = taken-trains _ _ _ _ _ checked (told .answer .given .1) in
-    let refused = sym (c .before .before .own .given .1) ∙ rw trains at (asked .check-reported .ensures) in
+    let refused = sym (c .before .before .own .given .1) ∙ rw trains at (asked .check-own .ensures) in
     decoding-refused _ _ _ (then-pass _ _ _ fine refused ∙ then-assoc _ (sheetVerdict _) _)
     (c .refused .ensures .0) (c .refused .ensures .1)
 
@@ -59,7 +59,7 @@ returns-2 c =
     let told = asked .before .before in
     let checked = told .before .before .check-plan .ensures in
     let trains = taken-trains _ _ _ _ _ checked (told .answer .given .1) in
-    let fine = sym (rw trains at (asked .check-reported .ensures)) ∙ c .enum-told .given .1 in
+    let fine = sym (rw trains at (asked .check-own .ensures)) ∙ c .enum-told .given .1 in
     decoding-same (then-nothing _ _ fine ∙ then-assoc _ (sheetVerdict _) _) checked
 
 -- the checks of plan refused
@@ -75,7 +75,7 @@ check-report-spec =
     (tie.spec
     check-plan-requires
     enum-known-answer
-    check-reported-requires
+    check-own-requires
     enum-known-own
     refused-requires
     returns

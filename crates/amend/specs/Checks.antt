@@ -2,7 +2,7 @@
 --   cellVerdict m cells k l         12 for cell (k, l) of a line of m trains
 --   rowVerdict m cells k            12 for the cells in use of row k
 --   laterVerdict m cells i          12 for the rows after train i, the first first
---   reportedVerdict m i v cells     11, 6, 12 for a report of v minutes for train i
+--   ownVerdict m i v cells     11, 6, 12 for a report of v minutes for train i
 --   Reportable m i v cells          none of them
 --   FirstOver m i cells k           row k is the first after train i with a cell in use over the limit
 -- Assumes nothing.
@@ -16,19 +16,19 @@ use Rattle.rail.specs.Verdict.{refuse_when_below_, _andThen_, firstOf}
 use Rattle.line.specs.Ranges.{limit}
 use Rattle.cells.specs.Place.{tableOf}
 
--- a cell in use in a row after the train is over 1,916,928,000,000; the place is the first such row
 unfoldable pub cellVerdict : ℕ → List ℕ → ℕ → ℕ → Verdict
 cellVerdict m cells k l = (refuse (CellOverLimit k) when limit below tableOf m cells k l) andThen Fine
 
 unfoldable pub rowVerdict : ℕ → List ℕ → ℕ → Verdict
 rowVerdict m cells k = firstOf (cellVerdict m cells k) k (m + 1 - k)
 
+-- a cell in use in a row after the train is over 1,916,928,000,000; the place is the first such row
 unfoldable pub laterVerdict : ℕ → List ℕ → ℕ → Verdict
 laterVerdict m cells i = firstOf (rowVerdict m cells) (i + 1) (m - i)
 
 -- train is 0 or over m; new delay over 1,440; then the later rows
-unfoldable pub reportedVerdict : ℕ → ℕ → ℕ → List ℕ → Verdict
-reportedVerdict m i v cells =
+unfoldable pub ownVerdict : ℕ → ℕ → ℕ → List ℕ → Verdict
+ownVerdict m i v cells =
     (refuse NoSuchTrain when i below 1)
     andThen (refuse NoSuchTrain when m below i)
     andThen (refuse (NewDelay (train i)) when 1440 below v)
@@ -48,5 +48,5 @@ pub record FirstOver (m i : ℕ) (cells : List ℕ) (k : ℕ) : Type 0 where
   pub in-row : k ≤ column
   pub last : column ≤ m
   pub over : limit < tableOf m cells k column
-  -- no row between them has such a cell
+  -- no row between the train and k has such a cell
   pub first : (j l : ℕ) → i < j → j < k → j ≤ l → l ≤ m → tableOf m cells j l ≤ limit

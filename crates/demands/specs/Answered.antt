@@ -1,49 +1,36 @@
--- What the customer demands of plan and report: demands 1 and 2; demand 3 is in Runs. The statements are about the
--- contracts `Plan` and `Report` alone, so they hold of whatever keeps them. That no arithmetic spills and no place
--- outside is read is what the proofs of the functions show.
---   SameLengths b c           every list of c has the length that it had in b
+-- Demand 1: every sheet of bytes and every report gets an answer. The statements are about the contracts `Plan` and
+-- `Report` alone, so they hold of whatever keeps them. That no arithmetic spills and no place outside is read is what
+-- the proofs of the functions show.
+--   SameLengths before after  every list has the length that it had
 --   Blanked before after      the decisions and the delays are blank, the cells as they were
 --   Carries r a               the answer a carries number and place of the refusal r, and 0 for the total
 --   Answered checks Passes m last before after a     what demand 1 says of one call of plan or report
 --   PlanAnswered, ReportAnswered     of one plan, and of one report
 --   PlanPossible, ReportPossible     an outcome that the contract allows
---   policyIn bytes            the policy that decision bytes show
---   LeastPlan L after a       what demand 2 says of one accepted plan, of the line L
---   Demand1, Demand2          the demands
+--   Demand1                   the demand
 -- Assumes nothing.
 use Prim.Native.Nat.{ℕ, _≤_, _<_}
 use mathlib.Core.Path.{_≡_}
 use mathlib.Core.List.{List}
 use mathlib.Core.Logic.{_⊎_}
 use lib.ListN.{length, getD, replicate}
-use Rattle.lists.specs.Choice.{ifSame}
-use Rattle.lists.specs.Run.{nth, padded}
 use Rattle.bits.specs.Field.{Bytes}
 use Rattle.rail.specs.declared.Refusal.{Refusal}
 use Rattle.rail.specs.declared.Refusal.the-variants.{NoSuchTrain, NewDelay, CellOverLimit}
 use Rattle.rail.specs.declared.Verdict.{Verdict}
 use Rattle.rail.specs.declared.Verdict.the-variants.{Refused}
 use Rattle.rail.specs.Refusal.{train, numberOf, placeOf}
-use Rattle.line.specs.Line.{Line}
-use Rattle.line.specs.Policy.{Keep, Go, Policy, arrival, total}
-use Rattle.line.specs.Plan.{FirstDifference}
-use Rattle.line.specs.Cells.{IsCell}
+use Rattle.line.specs.Policy.{total}
 use Rattle.line.specs.Ranges.{limit}
 use Rattle.sheet.specs.Format.{trainsOf}
-use Rattle.sheet.specs.Numbers.{numbersOf}
 use Rattle.sheet.specs.Accepted.{AcceptedSheet}
-use Rattle.meaning.specs.OneMeaning.{ReadThenWrite, WriteThenRead, EqualFields}
 use Rattle.cells.specs.Place.{place, InUse}
-use Rattle.cells.specs.Shown.{shown}
-use Rattle.amend.specs.Reported.{Reportable, FirstOver}
-use Rattle.settle.specs.LineOf.{lineOf}
+use Rattle.amend.specs.Checks.{Reportable, FirstOver}
 use Rattle.settle.specs.Buffers.{Buffers, RightLengths}
 use Rattle.planner.specs.declared.Answer.{Answer}
 use Rattle.planner.specs.Outcome.{answerNumber, answerPlace, answerTotal}
 use Rattle.planner.specs.Plan.{planVerdict, Plan}
 use Rattle.planner.specs.Report.{reportVerdict, Report}
-
--- ---- demand 1
 
 pub record SameLengths (before after : Buffers) : Type 0 where
   pub cells : length (after .cells) ≡ length (before .cells)
@@ -60,8 +47,8 @@ pub record Carries (r : Refusal) (a : Answer) : Type 0 where
   pub place : answerPlace a ≡ placeOf r
   pub total : answerTotal a ≡ 0
 
--- Of a call with these checks: none of them refuses exactly when the buffers have the stated lengths and Passes holds.
--- The line has m trains, and rows 1 to last are worked.
+-- Of a call with these checks; Passes says in plain facts what those after the lengths ask for. The line has m trains,
+-- and rows 1 to last are worked.
 pub record Answered (checks : Verdict) (Passes : Type 0) (m last : ℕ) (before after : Buffers) (a : Answer)
     : Type 0 where
   -- Accepted, that is number 0, exactly when every check passes.
@@ -75,7 +62,7 @@ pub record Answered (checks : Verdict) (Passes : Type 0) (m last : ℕ) (before 
   pub blanks : RightLengths before → ¬ (answerNumber a ≡ 0) → Blanked before after
   -- With another length the number is 10 and nothing at all is written.
   pub untouched : ¬ (RightLengths before) → (answerNumber a ≡ 10) × (after ≡ before)
-  -- Of the working cells those in use of rows 1 to last are written alone.
+  -- Of the working cells only those in use of rows 1 to last are written.
   pub others : answerNumber a ≡ 0 → (p : ℕ) → ¬ (InUse m last p)
       → getD (after .cells) p 0 ≡ getD (before .cells) p 0
   pub lengths : SameLengths before after
@@ -91,13 +78,14 @@ pub record ReportAnswered (s : List ℕ) (i v : ℕ) (before : Buffers) (t : Lis
     : Type 0 where
   pub answered : Answered (reportVerdict s i v before) (AcceptedSheet s × Reportable (trainsOf s) i v (before .cells))
       (trainsOf s) i before after a
-  -- Its own refusals, where buffers and sheet are right: 11; then 6, at the train; then 12, at the first such row.
+  -- Its own refusals, where buffers and sheet are right: 11; then 6, at the train; then 12, at the first
+  -- row after the train with a cell in use over the limit.
   pub no-train : RightLengths before → AcceptedSheet s → (i < 1) ⊎ (trainsOf s < i) → Carries NoSuchTrain a
   pub too-late : RightLengths before → AcceptedSheet s → 1 ≤ i → i ≤ trainsOf s → 1440 < v
       → Carries (NewDelay (train i)) a
   pub over : RightLengths before → AcceptedSheet s → 1 ≤ i → i ≤ trainsOf s → v ≤ 1440 → (k : ℕ)
       → FirstOver (trainsOf s) i (before .cells) k → Carries (CellOverLimit k) a
-  -- A refused report does not change the sheet, and none its length.
+  -- A refused report does not change the sheet, and no report changes its length.
   pub sheet : ¬ (answerNumber a ≡ 0) → t ≡ s
   pub sheet-length : length t ≡ length s
 
@@ -125,31 +113,3 @@ pub record Demand1 : Type 0 where
       → PlanAnswered s before after a
   pub of-report : (s : List ℕ) (i v : ℕ) (before : Buffers) (t : List ℕ) (after : Buffers) (a : Answer)
       → Report s i v before t after a → ReportAnswered s i v before t after a
-
--- ---- demand 2
-
--- byte i, from 1: 1 is keep, anything else go
-unfoldable pub policyIn : List ℕ → Policy
-policyIn bytes i = ifSame (nth bytes i) 1 Keep Go
-
-pub record LeastPlan (L : Line) (after : Buffers) (a : Answer) : Type 0 where
-  -- The total is that of the decisions shown,
-  pub told : answerTotal a ≡ total L (policyIn (after .decisions))
-  -- the least of all wait-or-depart policies.
-  pub least : (q : Policy) → total L (policyIn (after .decisions)) ≤ total L q
-  -- Among equals it is the one that keeps the earliest connection.
-  pub earliest : (q : Policy) → total L q ≡ total L (policyIn (after .decisions)) → (t : ℕ)
-      → FirstDifference (L .trains) (policyIn (after .decisions)) q t → policyIn (after .decisions) t ≡ Keep
-  -- The bytes are those of these decisions, and the delays are what comes of them.
-  pub decisions : after .decisions ≡ shown (L .trains) (policyIn (after .decisions))
-  pub delays : after .delays ≡ padded 64 (L .trains) (arrival (L .running) (policyIn (after .decisions)))
-  -- Each cell in use is what document 01 says that it is.
-  pub cells : (k l : ℕ) → 1 ≤ k → k ≤ l → l ≤ L .trains → IsCell L k l (getD (after .cells) (place (L .trains) k l) 0)
-
-pub record Demand2 : Type 0 where
-  pub accepted-plan-is-least : (s : List ℕ) (before after : Buffers) (a : Answer) → Plan s before after a
-      → answerNumber a ≡ 0 → LeastPlan (lineOf (numbersOf s)) after a
-  -- Sheets are read and written so that each accepted sheet has one meaning and comes back bit for bit.
-  pub read-then-write : ReadThenWrite
-  pub write-then-read : WriteThenRead
-  pub equal-fields : EqualFields

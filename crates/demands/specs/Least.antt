@@ -1,0 +1,51 @@
+-- Demand 2: the least total, the earliest connection kept, each accepted sheet with one meaning. The statements are
+-- about the contract `Plan`, and of the last sentence about those of read and write (meaning/specs/OneMeaning).
+--   policyIn bytes            the policy that decision bytes show
+--   LeastPlan L after a       what demand 2 says of one accepted plan, of the line L
+--   Demand2                   the demand
+-- Assumes nothing.
+use Prim.Native.Nat.{ℕ, _≤_}
+use mathlib.Core.Path.{_≡_}
+use mathlib.Core.List.{List}
+use lib.ListN.{getD}
+use Rattle.lists.specs.Choice.{ifSame}
+use Rattle.lists.specs.Run.{nth, padded}
+use Rattle.line.specs.Line.{Line}
+use Rattle.line.specs.Policy.{Keep, Go, Policy, arrival, total}
+use Rattle.line.specs.Plan.{FirstDifference}
+use Rattle.line.specs.Cells.{IsCell}
+use Rattle.sheet.specs.Numbers.{numbersOf}
+use Rattle.meaning.specs.OneMeaning.{ReadThenWrite, WriteThenRead, EqualFields}
+use Rattle.cells.specs.Place.{place}
+use Rattle.cells.specs.Shown.{shown}
+use Rattle.settle.specs.LineOf.{lineOf}
+use Rattle.settle.specs.Buffers.{Buffers}
+use Rattle.planner.specs.declared.Answer.{Answer}
+use Rattle.planner.specs.Outcome.{answerNumber, answerTotal}
+use Rattle.planner.specs.Plan.{Plan}
+
+-- byte i, from 1: 1 is keep, anything else go
+unfoldable pub policyIn : List ℕ → Policy
+policyIn bytes i = ifSame (nth bytes i) 1 Keep Go
+
+pub record LeastPlan (L : Line) (after : Buffers) (a : Answer) : Type 0 where
+  -- The total is that of the decisions shown,
+  pub told : answerTotal a ≡ total L (policyIn (after .decisions))
+  -- the least of all wait-or-depart policies.
+  pub least : (q : Policy) → total L (policyIn (after .decisions)) ≤ total L q
+  -- Among equals it is the one that keeps the earliest connection.
+  pub earliest : (q : Policy) → total L q ≡ total L (policyIn (after .decisions)) → (t : ℕ)
+      → FirstDifference (L .trains) (policyIn (after .decisions)) q t → policyIn (after .decisions) t ≡ Keep
+  -- The bytes are those of these decisions, and the delays are what comes of them.
+  pub decisions : after .decisions ≡ shown (L .trains) (policyIn (after .decisions))
+  pub delays : after .delays ≡ padded 64 (L .trains) (arrival (L .running) (policyIn (after .decisions)))
+  -- Each cell in use is what document 01 says that it is.
+  pub cells : (k l : ℕ) → 1 ≤ k → k ≤ l → l ≤ L .trains → IsCell L k l (getD (after .cells) (place (L .trains) k l) 0)
+
+pub record Demand2 : Type 0 where
+  pub accepted-plan-is-least : (s : List ℕ) (before after : Buffers) (a : Answer) → Plan s before after a
+      → answerNumber a ≡ 0 → LeastPlan (lineOf (numbersOf s)) after a
+  -- Sheets are read and written so that each accepted sheet has one meaning and comes back bit for bit.
+  pub read-then-write : ReadThenWrite
+  pub write-then-read : WriteThenRead
+  pub equal-fields : EqualFields
