@@ -15,7 +15,7 @@ use Rattle.line.specs.Line.{Line, lineFrom}
 use Rattle.line.specs.Policy.{Policy, arrival, total}
 use Rattle.line.specs.Cells.{Table, bookOf, cellBy, Worked, decide}
 use Rattle.line.specs.Alike.{LinesAlike}
-use Rattle.line.specs.Ways.{Rows, tableFrom}
+use Rattle.line.specs.Ways.{Rows, tableFrom, Answer as CaseAnswer}
 use Rattle.line.proofs.Days.{same-days, same-total}
 use Rattle.line.proofs.Alike.{books-of-lines}
 use Rattle.line.proofs.Tables.{worked-for-alike, worked-one}
@@ -33,7 +33,7 @@ use Rattle.planner.specs.declared.Answer.{Answer}
 use Rattle.planner.specs.declared.Answer.the-variants.{Accepted}
 use Rattle.planner.specs.Plan.{planVerdict, Planned, Plan}
 use Rattle.planner.proofs.Refusals.{checks-right}
-use Rattle.demands.specs.Sheets.{Leaves}
+use Rattle.demands.specs.Sheets.{decisionBytes, Leaves}
 
 -- ---- two tables that are equal at a few pairs, since the lists of their values are
 
@@ -74,28 +74,28 @@ printedPolicy M rows = decide (bookOf M) (printedCells (M .trains) rows)
 
 -- What is printed for a line: each cell is what the rule makes of the others, and the rest is read off the cells. All
 -- four are computed.
-pub record Printed (M : Line) (n : ℕ) (ds ys : List ℕ) (rows : Rows) : Type 0 where
-  pub rule : pairRows (M .trains) (printedCells (M .trains) rows)
-      ≡ pairRows (M .trains) (cellBy (bookOf M) (printedCells (M .trains) rows))
-  pub corner : printedCells (M .trains) rows 1 1 ≡ n
-  pub decisions : listed (λ i. ifBelow 1 i (byteOf (printedPolicy M rows i)) 0) 1 (M .trains) ≡ ds
-  pub delays : listed (arrival (M .running) (printedPolicy M rows)) 1 (M .trains) ≡ ys
+pub record Printed (M : Line) (x : CaseAnswer) : Type 0 where
+  pub rule : pairRows (M .trains) (printedCells (M .trains) (x .rows))
+      ≡ pairRows (M .trains) (cellBy (bookOf M) (printedCells (M .trains) (x .rows)))
+  pub corner : printedCells (M .trains) (x .rows) 1 1 ≡ x .total
+  pub decisions : listed (λ i. ifBelow 1 i (byteOf (printedPolicy M (x .rows) i)) 0) 1 (M .trains) ≡ decisionBytes x
+  pub delays : listed (arrival (M .running) (printedPolicy M (x .rows))) 1 (M .trains) ≡ x .delays
 
-module _ (s : List ℕ) (M : Line) (n : ℕ) (ds ys : List ℕ) (rows : Rows) (fine : sheetVerdict s ≡ Fine)
-    (alike : LinesAlike 1 (lineOf (numbersOf s)) M) (print : Printed M n ds ys rows)
+module _ (s : List ℕ) (M : Line) (x : CaseAnswer) (fine : sheetVerdict s ≡ Fine)
+    (alike : LinesAlike 1 (lineOf (numbersOf s)) M) (print : Printed M x)
     (before after : Buffers) (a : Answer) (right : RightLengths before) (h : Plan s before after a) where
   abbrev L : Line
   L = lineOf (numbersOf s)
 
   abbrev q : Policy
-  q = printedPolicy M rows
+  q = printedPolicy M (x .rows)
 
-  worked : Worked (bookOf M) (M .trains) (λ k l. 0) (printedCells (M .trains) rows)
+  worked : Worked (bookOf M) (M .trains) (λ k l. 0) (printedCells (M .trains) (x .rows))
   unfolding printedCells
   worked =
       record {
         last = λ k. below-yes _ _ (omega arith);
-        anew = λ k l u v w x. same-pairs _ _ (M .trains) (print .rule) k l u w x;
+        anew = λ k l u v w y. same-pairs _ _ (M .trains) (print .rule) k l u w y;
         stand = λ k l u v w. absurd (omega arith);
       }
 
@@ -107,38 +107,38 @@ module _ (s : List ℕ) (M : Line) (n : ℕ) (ds ys : List ℕ) (rows : Rows) (f
   agrees : (i : ℕ) → 2 ≤ i → i ≤ L .trains → plan .policy i ≡ q i
   agrees i u v =
       plan-one M (plan .policy) q
-      (plan-alike L M (plan .policy) (plan .policy) alike (λ j x y. refl) (plan .plan))
+      (plan-alike L M (plan .policy) (plan .policy) alike (λ j y z. refl) (plan .plan))
       (decided-is-plan M _ _ worked) i u (omega (arith, alike .trains))
 
-  total-is : total L (plan .policy) ≡ n
+  total-is : total L (plan .policy) ≡ x .total
   total-is = same-total L M (plan .policy) q alike agrees ∙ decided-total M _ _ worked ∙ print .corner
 
-  decisions-are : after .decisions ≡ padded 64 (M .trains) (nth ds)
+  decisions-are : after .decisions ≡ padded 64 (M .trains) (nth (decisionBytes x))
   unfolding shown
   decisions-are =
       plan .decisions ∙ shown-same (L .trains) (plan .policy) q agrees ∙ ap (λ (m : ℕ). shown m q) (alike .trains)
-      ∙ listed-padded 64 (M .trains) _ ds (print .decisions)
+      ∙ listed-padded 64 (M .trains) _ _ (print .decisions)
 
-  delays-are : after .delays ≡ padded 64 (M .trains) (nth ys)
+  delays-are : after .delays ≡ padded 64 (M .trains) (nth (x .delays))
   delays-are =
       plan .delays ∙ padded-same 64 (L .trains) _ _ (same-days L M (plan .policy) q alike agrees .arrival)
       ∙ ap (λ (m : ℕ). padded 64 m (arrival (M .running) q)) (alike .trains)
-      ∙ listed-padded 64 (M .trains) _ ys (print .delays)
+      ∙ listed-padded 64 (M .trains) _ _ (print .delays)
 
   -- both tables are worked for M
   cells-are : (k l : ℕ) → 1 ≤ k → k ≤ l → l ≤ M .trains
-      → getD (after .cells) (place (M .trains) k l) 0 ≡ tableFrom rows k l
+      → getD (after .cells) (place (M .trains) k l) 0 ≡ tableFrom (x .rows) k l
   unfolding tableOf printedCells
   cells-are k l u v w =
       let anew = worked-for-alike (L .trains) (bookOf L) (bookOf M) _ _ (books-of-lines 1 L M alike)
       (plan .cells .worked) in
       let anew′ = subst (λ (t : ℕ). Worked (bookOf M) t (tableOf t (before .cells)) (tableOf t (after .cells)))
       (alike .trains) anew in
-      let same = worked-one (bookOf M) (M .trains) _ _ _ _ anew′ worked (λ i j x y z. absurd (omega arith))
+      let same = worked-one (bookOf M) (M .trains) _ _ _ _ anew′ worked (λ i j y z o. absurd (omega arith))
       k l u v (omega arith) in
       sym (below-no _ _ w) ∙ same ∙ below-no _ _ w
 
-  pub leaves : Leaves (M .trains) n ds ys rows after a
+  pub leaves : Leaves (M .trains) x after a
   leaves =
       record {
         answer = plan .answer ∙ ap Accepted total-is;

@@ -2,7 +2,6 @@
 -- both.
 -- Assumes nothing.
 use mathlib.Core.Path.{_≡_, refl}
-use mathlib.Core.List.{[], _∷_}
 use Rattle.lists.specs.Choice.{ifBelow}
 use Rattle.lists.specs.Run.{runOf, listed}
 use Rattle.bits.specs.Field.{bitAt, fieldOf}
@@ -14,7 +13,7 @@ use Rattle.line.specs.Policy.{arrival, excess, departure}
 use Rattle.line.specs.Cells.{leaving, aboard, runFrom, excessOn, arrivalOn, keepCost, goCost, cellBy, choice, begins}
 use Rattle.line.specs.Cells.{policyBy, decide}
 use Rattle.line.specs.Alike.{LinesAlike}
-use Rattle.line.specs.Cases.{lineA, lineB, delaysB}
+use Rattle.line.specs.Cases.{lineA, lineB, delaysB, a as caseA, b4, b6}
 use Rattle.sheet.specs.Format.{entry, bitsOf, bytesOf, pairsOf}
 use Rattle.sheet.specs.Numbers.{numbersOf}
 use Rattle.sheet.specs.Pairs.{fieldsUpTo, fieldOfPair, passengersOfPair}
@@ -23,8 +22,7 @@ use Rattle.sheet.specs.Checks.{headVerdict, fillingVerdict, bodyVerdict, sheetV
 use Rattle.sheet.specs.SheetA.{sheetA}
 use Rattle.sheet.proofs.Sample.{sheet-a-accepted}
 use Rattle.settle.specs.LineOf.{lineOf}
-use Rattle.demands.specs.Sheets.{sheetB, sheetB13, AnswersA, decisionsB, rowsB, AnswersB, keepKeep, rowsB13}
-use Rattle.demands.specs.Sheets.{AnswersB13}
+use Rattle.demands.specs.Sheets.{sheetB, sheetB13, AnswersA, AnswersB, AnswersB13}
 use Rattle.demands.proofs.Printed.{pairRows, lines-same, printedCells, Printed, leaves}
 
 -- ---- the sheets are accepted
@@ -55,17 +53,17 @@ line-of-sheet-b13 = lines-same 3 13 _ _ _ _ _ _ _ _ refl refl refl refl
 
 -- ---- the printed numbers agree with the rule
 
-printed-a : Printed lineA 21 (0 ∷ []) (7 ∷ []) ((21 ∷ []) ∷ [])
+printed-a : Printed lineA caseA
 unfolding ifBelow runOf listed sum_from_to_ lineFrom arrival excess departure leaving aboard runFrom excessOn arrivalOn
     keepCost goCost cellBy choice begins policyBy decide pairRows printedCells
 printed-a = record { rule = refl; corner = refl; decisions = refl; delays = refl }
 
-printed-b : Printed (lineB 10 delaysB) 176 decisionsB (9 ∷ 3 ∷ 0 ∷ []) rowsB
+printed-b : Printed (lineB 10 delaysB) b4
 unfolding ifBelow runOf listed sum_from_to_ lineFrom arrival excess departure leaving aboard runFrom excessOn arrivalOn
     keepCost goCost cellBy choice begins policyBy decide pairRows printedCells
 printed-b = record { rule = refl; corner = refl; decisions = refl; delays = refl }
 
-printed-b13 : Printed (lineB 13 delaysB) 202 keepKeep (9 ∷ 7 ∷ 2 ∷ []) rowsB13
+printed-b13 : Printed (lineB 13 delaysB) b6
 unfolding ifBelow runOf listed sum_from_to_ lineFrom arrival excess departure leaving aboard runFrom excessOn arrivalOn
     keepCost goCost cellBy choice begins policyBy decide pairRows printedCells
 printed-b13 = record { rule = refl; corner = refl; decisions = refl; delays = refl }
@@ -74,12 +72,12 @@ printed-b13 = record { rule = refl; corner = refl; decisions = refl; delays = re
 
 pub answers-a : AnswersA
 unfolding lineFrom
-answers-a = leaves sheetA lineA _ _ _ _ sheet-a-accepted line-of-sheet-a printed-a
+answers-a = leaves sheetA lineA _ sheet-a-accepted line-of-sheet-a printed-a
 
 pub answers-b : AnswersB
 unfolding lineFrom
-answers-b = leaves sheetB (lineB 10 delaysB) _ _ _ _ sheet-b-accepted line-of-sheet-b printed-b
+answers-b = leaves sheetB (lineB 10 delaysB) _ sheet-b-accepted line-of-sheet-b printed-b
 
 pub answers-b13 : AnswersB13
 unfolding lineFrom
-answers-b13 = leaves sheetB13 (lineB 13 delaysB) _ _ _ _ sheet-b13-accepted line-of-sheet-b13 printed-b13
+answers-b13 = leaves sheetB13 (lineB 13 delaysB) _ sheet-b13-accepted line-of-sheet-b13 printed-b13

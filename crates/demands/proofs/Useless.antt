@@ -9,11 +9,12 @@ use Rattle.lists.specs.Run.{nth, padded}
 use Rattle.lists.proofs.Choice.{below-yes}
 use Rattle.lists.proofs.Order.{zero-not-one}
 use Rattle.lists.proofs.Run.{padded-nth}
+use Rattle.line.specs.Cases.{b4, b6, b7}
 use Rattle.sheet.proofs.Facts.{accepted-of-fine}
 use Rattle.cells.specs.Shown.{shown}
 use Rattle.amend.specs.Checks.{FirstOver}
 use Rattle.planner.specs.Outcome.{answerTotal}
-use Rattle.demands.specs.Sheets.{sheetB, decisionsB, keepKeep}
+use Rattle.demands.specs.Sheets.{sheetB, decisionBytes}
 use Rattle.demands.specs.Useless.{RefusesAllBreaks, SameDecisionsBreak, AllKeepBreaks, DoesNothingBreaks}
 use Rattle.demands.specs.Useless.{StaysBlankBreaks, RepeatsPlanBreaks, WritesEarlyBreaks}
 use Rattle.demands.proofs.Sheets.{sheet-b-accepted, answers-b, answers-b13}
@@ -31,14 +32,14 @@ refuses-all-breaks before after r right h =
 
 pub same-decisions-break : SameDecisionsBreak
 same-decisions-break before after before′ after′ a a′ right right′ h h′ same =
-    let zero = byte-two (after .decisions) decisionsB (answers-b before after a right h .decisions) in
-    let one = byte-two (after′ .decisions) keepKeep (answers-b13 before′ after′ a′ right′ h′ .decisions) in
+    let zero = byte-two (after .decisions) (decisionBytes b4) (answers-b before after a right h .decisions) in
+    let one = byte-two (after′ .decisions) (decisionBytes b6) (answers-b13 before′ after′ a′ right′ h′ .decisions) in
     zero-not-one (sym zero ∙ ap (λ (l : List ℕ). nth l 2) same ∙ one)
 
 pub all-keep-breaks : AllKeepBreaks
 unfolding shown
 all-keep-breaks before after a right h same =
-    let zero = byte-two (after .decisions) decisionsB (answers-b before after a right h .decisions) in
+    let zero = byte-two (after .decisions) (decisionBytes b4) (answers-b before after a right h .decisions) in
     let one : nth (after .decisions) 2 ≡ 1
     = padded-nth (after .decisions) 64 3 _ same (omega arith) 2 (omega arith) (omega arith)
     ∙ below-yes _ _ (omega arith) in
@@ -49,7 +50,7 @@ does-nothing-breaks before after a right other h same = other (sym same ∙ answ
 
 pub stays-blank-breaks : StaysBlankBreaks
 stays-blank-breaks before after a right blank h same =
-    let zero = byte-two (after .decisions) decisionsB (answers-b before after a right h .decisions) in
+    let zero = byte-two (after .decisions) (decisionBytes b4) (answers-b before after a right h .decisions) in
     let two : nth (after .decisions) 2 ≡ 2 = ap (λ (l : List ℕ). nth l 2) (same ∙ blank) in
     absurd (omega (arith, zero, two))
 
@@ -58,8 +59,8 @@ repeats-plan-breaks after4 a4 t before after a h =
     let old = answers-b (h .lent) after4 a4 (h .lent-right) (h .plan) in
     let new = answers-b7 after4 a4 t before after a h in (
       λ same.
-          let zero = byte-two (after4 .decisions) decisionsB (old .decisions) in
-          let one = byte-two (after .decisions) keepKeep (new .decisions) in
+          let zero = byte-two (after4 .decisions) (decisionBytes b4) (old .decisions) in
+          let one = byte-two (after .decisions) (decisionBytes b7) (new .decisions) in
           zero-not-one (sym zero ∙ sym (ap (λ (l : List ℕ). nth l 2) same) ∙ one),
       λ same.
           let nine : nth (after4 .delays) 1 ≡ 9

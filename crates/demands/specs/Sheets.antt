@@ -1,22 +1,24 @@
 -- Sheet B of document 01, "Sums to check by hand"; what plan answers on sheets A, B and B with T 13 (cases a, b4 and
 -- b6), and what two reports answer after the plan of B (cases b7 and b8).
 --   sheetB, sheetB13             the bytes of sheet B, by the layout of "The bit sheet", and of B with T 13
---   Leaves m n ds ys rows after a     m trains: the total is n; the decision bytes begin with ds and the delays with
---                                ys, the rest 0; the cells in use are these rows
---   Answers s m n ds ys rows     plan leaves that on the sheet s, whatever buffers of the right lengths held before
+--   decisionBytes x              the decisions of the case x as bytes
+--   Leaves m x after a           m trains: total, decision bytes, delays and cells in use are those of the case x, the
+--                                other bytes and delays 0
+--   Answers s m x                plan leaves that on the sheet s, whatever buffers of the right lengths held before
 --   AnswersA, AnswersB, AnswersB13     of cases a, b4 and b6
 --   ReportAfterB4                the report of case b7, after the plan of case b4
 --   AnswersB7, AnswersB8         of cases b7 and b8
---   decisionsB, rowsB, keepKeep, rowsB13, rowsB7, rowsB8     the bytes and rows of the cases (line/specs/Cases)
 -- Assumes nothing.
 use Prim.Native.Nat.{ℕ, _≤_}
 use mathlib.Core.Path.{_≡_}
-use mathlib.Core.List.{List, [], _∷_}
+use mathlib.Core.List.{List, [], _∷_, map}
 use lib.ListN.{getD}
 use Rattle.lists.specs.Run.{nth, padded}
-use Rattle.line.specs.Ways.{Rows, tableFrom}
+use Rattle.line.specs.Ways.{tableFrom, Answer as CaseAnswer}
+use Rattle.line.specs.Cases.{a as caseA, b4, b6, b7, b8}
 use Rattle.sheet.specs.SheetA.{sheetA}
 use Rattle.cells.specs.Place.{place}
+use Rattle.cells.specs.Shown.{byteOf}
 use Rattle.planner.specs.declared.Answer.{Answer}
 use Rattle.planner.specs.declared.Answer.the-variants.{Accepted}
 use Rattle.settle.specs.Buffers.{Buffers, RightLengths}
@@ -35,48 +37,30 @@ sheetB13 =
     0x06 ∷ 0x03 ∷ 0x40 ∷ 0x28 ∷ 0x0f ∷ 0x01 ∷ 0x20 ∷ 0x3c ∷ 0x0a ∷ 0x00 ∷ 0x30 ∷ 0x37 ∷ 0x03
     ∷ 0x00 ∷ 0x00 ∷ 0x00 ∷ 0x80 ∷ 0x03 ∷ 0x00 ∷ 0x0a ∷ 0x00 ∷ 0x50 ∷ 0x00 ∷ 0x40 ∷ 0x0a ∷ 0x00 ∷ []
 
-pub record Leaves (m n : ℕ) (ds ys : List ℕ) (rows : Rows) (after : Buffers) (a : Answer) : Type 0 where
-  pub answer : a ≡ Accepted n
-  pub decisions : after .decisions ≡ padded 64 m (nth ds)
-  pub delays : after .delays ≡ padded 64 m (nth ys)
-  pub cells : (k l : ℕ) → 1 ≤ k → k ≤ l → l ≤ m → getD (after .cells) (place m k l) 0 ≡ tableFrom rows k l
+-- 0 for train 1, then the decisions of the case
+abbrev pub decisionBytes : CaseAnswer → List ℕ
+decisionBytes x = 0 ∷ map byteOf (x .decisions)
 
-abbrev pub Answers : List ℕ → ℕ → ℕ → List ℕ → List ℕ → Rows → Type 0
-Answers s m n ds ys rows =
-    (before after : Buffers) (a : Answer) → RightLengths before → Plan s before after a → Leaves m n ds ys rows after a
+pub record Leaves (m : ℕ) (x : CaseAnswer) (after : Buffers) (a : Answer) : Type 0 where
+  pub answer : a ≡ Accepted (x .total)
+  pub decisions : after .decisions ≡ padded 64 m (nth (decisionBytes x))
+  pub delays : after .delays ≡ padded 64 m (nth (x .delays))
+  pub cells : (k l : ℕ) → 1 ≤ k → k ≤ l → l ≤ m → getD (after .cells) (place m k l) 0 ≡ tableFrom (x .rows) k l
+
+abbrev pub Answers : List ℕ → ℕ → CaseAnswer → Type 0
+Answers s m x =
+    (before after : Buffers) (a : Answer) → RightLengths before → Plan s before after a → Leaves m x after a
 
 abbrev pub AnswersA : Type 0
-AnswersA = Answers sheetA 1 21 (0 ∷ []) (7 ∷ []) ((21 ∷ []) ∷ [])
-
--- ---- b4: go, keep
-
-abbrev pub decisionsB : List ℕ
-decisionsB = 0 ∷ 0 ∷ 1 ∷ []
-
-abbrev pub rowsB : Rows
-rowsB = (176 ∷ 140 ∷ 54 ∷ []) ∷ (30 ∷ 0 ∷ []) ∷ (0 ∷ []) ∷ []
+AnswersA = Answers sheetA 1 caseA
 
 abbrev pub AnswersB : Type 0
-AnswersB = Answers sheetB 3 176 decisionsB (9 ∷ 3 ∷ 0 ∷ []) rowsB
-
--- ---- b6: keep, keep
-
-abbrev pub keepKeep : List ℕ
-keepKeep = 0 ∷ 1 ∷ 1 ∷ []
-
-abbrev pub rowsB13 : Rows
-rowsB13 = (202 ∷ 166 ∷ 54 ∷ []) ∷ (30 ∷ 0 ∷ []) ∷ (0 ∷ []) ∷ []
+AnswersB = Answers sheetB 3 b4
 
 abbrev pub AnswersB13 : Type 0
-AnswersB13 = Answers sheetB13 3 202 keepKeep (9 ∷ 7 ∷ 2 ∷ []) rowsB13
+AnswersB13 = Answers sheetB13 3 b6
 
 -- ---- b7: b4, then train 1 reported at 5; b8: b7, then train 2 at 6
-
-abbrev pub rowsB7 : Rows
-rowsB7 = (68 ∷ 48 ∷ 0 ∷ []) ∷ (30 ∷ 0 ∷ []) ∷ (0 ∷ []) ∷ []
-
-abbrev pub rowsB8 : Rows
-rowsB8 = (143 ∷ 123 ∷ 27 ∷ []) ∷ (80 ∷ 20 ∷ []) ∷ (0 ∷ []) ∷ []
 
 -- Sheet B is planned, and then train 1 is reported at 5, with buffers of the right lengths.
 pub record ReportAfterB4 (after4 : Buffers) (a4 : Answer) (t : List ℕ) (before after : Buffers) (a : Answer)
@@ -93,7 +77,7 @@ abbrev pub AnswersB7 : Type 0
 AnswersB7 =
     (after4 : Buffers) (a4 : Answer) (t : List ℕ) (before after : Buffers) (a : Answer)
     → ReportAfterB4 after4 a4 t before after a
-    → Leaves 3 68 keepKeep (5 ∷ 3 ∷ 0 ∷ []) rowsB7 after a
+    → Leaves 3 b7 after a
 
 -- Then train 2 is reported at 6.
 abbrev pub AnswersB8 : Type 0
@@ -104,4 +88,4 @@ AnswersB8 =
     → before .cells ≡ after7 .cells
     → RightLengths before
     → Report t 2 6 before u after a
-    → Leaves 3 143 keepKeep (5 ∷ 6 ∷ 1 ∷ []) rowsB8 after a
+    → Leaves 3 b8 after a

@@ -18,6 +18,7 @@ use Rattle.lists.specs.Run.{nth, padded}
 use Rattle.rail.specs.declared.Refusal.{Refusal}
 use Rattle.rail.specs.declared.Refusal.the-variants.{CellOverLimit}
 use Rattle.line.specs.Policy.{Keep}
+use Rattle.line.specs.Cases.{b4}
 use Rattle.cells.specs.Shown.{shown}
 use Rattle.planner.specs.declared.Answer.{Answer}
 use Rattle.planner.specs.declared.Answer.the-variants.{Refused as AnswerRefused}
@@ -26,7 +27,7 @@ use Rattle.amend.specs.Checks.{FirstOver}
 use Rattle.planner.specs.Plan.{Plan}
 use Rattle.planner.specs.Report.{Report}
 use Rattle.demands.specs.Answered.{Carries}
-use Rattle.demands.specs.Sheets.{sheetB, sheetB13, decisionsB, ReportAfterB4}
+use Rattle.demands.specs.Sheets.{sheetB, sheetB13, decisionBytes, ReportAfterB4}
 
 abbrev pub RefusesAllBreaks : Type 0
 RefusesAllBreaks =
@@ -54,7 +55,7 @@ abbrev pub DoesNothingBreaks : Type 0
 DoesNothingBreaks =
     (before after : Buffers) (a : Answer)
     → RightLengths before
-    → ¬ (before .decisions ≡ padded 64 3 (nth decisionsB))
+    → ¬ (before .decisions ≡ padded 64 3 (nth (decisionBytes b4)))
     → Plan sheetB before after a
     → ¬ (after .decisions ≡ before .decisions)
 

@@ -43,10 +43,10 @@ delaysB = nth (9 ∷ 3 ∷ 0 ∷ [])
 abbrev reported : ℕ → ℕ → (ℕ → ℕ) → ℕ → ℕ
 reported t y delay i = ifSame i t y (delay i)
 
-abbrev delaysB7 : ℕ → ℕ
+abbrev pub delaysB7 : ℕ → ℕ
 delaysB7 = reported 1 5 delaysB
 
-abbrev delaysB8 : ℕ → ℕ
+abbrev pub delaysB8 : ℕ → ℕ
 delaysB8 = reported 2 6 delaysB7
 
 -- lines C and D: two trains, slack 0
@@ -75,19 +75,22 @@ report t b L a = record { line = L; ways = Reworking t (b .rows) ∷ Listing ∷
 abbrev rework : ℕ → Rows → Line → Answer → Case
 rework t before L a = record { line = L; ways = Reworking t before ∷ []; answer = a }
 
-abbrev b4 : Answer
+abbrev pub a : Answer
+a = answer [] (7 ∷ []) 21 ((21 ∷ []) ∷ [])
+
+abbrev pub b4 : Answer
 b4 = answer (Go ∷ Keep ∷ []) (9 ∷ 3 ∷ 0 ∷ []) 176 ((176 ∷ 140 ∷ 54 ∷ []) ∷ (30 ∷ 0 ∷ []) ∷ (0 ∷ []) ∷ [])
 
 abbrev b5 : Answer
 b5 = answer (Go ∷ Keep ∷ []) (9 ∷ 3 ∷ 0 ∷ []) 198 ((198 ∷ 162 ∷ 54 ∷ []) ∷ (30 ∷ 0 ∷ []) ∷ (0 ∷ []) ∷ [])
 
-abbrev b6 : Answer
+abbrev pub b6 : Answer
 b6 = answer (Keep ∷ Keep ∷ []) (9 ∷ 7 ∷ 2 ∷ []) 202 ((202 ∷ 166 ∷ 54 ∷ []) ∷ (30 ∷ 0 ∷ []) ∷ (0 ∷ []) ∷ [])
 
-abbrev b7 : Answer
+abbrev pub b7 : Answer
 b7 = answer (Keep ∷ Keep ∷ []) (5 ∷ 3 ∷ 0 ∷ []) 68 ((68 ∷ 48 ∷ 0 ∷ []) ∷ (30 ∷ 0 ∷ []) ∷ (0 ∷ []) ∷ [])
 
-abbrev b8 : Answer
+abbrev pub b8 : Answer
 b8 = answer (Keep ∷ Keep ∷ []) (5 ∷ 6 ∷ 1 ∷ []) 143 ((143 ∷ 123 ∷ 27 ∷ []) ∷ (80 ∷ 20 ∷ []) ∷ (0 ∷ []) ∷ [])
 
 -- rows 2 and 3 as no plan of line B leaves them
@@ -100,8 +103,7 @@ foreign = (40 ∷ 7 ∷ []) ∷ (0 ∷ []) ∷ []
 -- and not the 176 that the decisions cost.
 abbrev pub table : List Case
 table =
-    -- a
-    plan lineA (answer [] (7 ∷ []) 21 ((21 ∷ []) ∷ []))
+    plan lineA a
     -- b1, b2, b3 with keep and with go
     ∷ policy (lineB 10 delaysB) (answer (Keep ∷ Keep ∷ []) (9 ∷ 7 ∷ 2 ∷ []) 202 [])
     ∷ policy (lineB 10 delaysB) (answer (Keep ∷ Go ∷ []) (9 ∷ 7 ∷ 0 ∷ []) 218 [])
