@@ -3,16 +3,17 @@
 -- Assumes nothing.
 use mathlib.Core.Path.{refl, sym, _∙_}
 use mathlib.Core.List.{List}
-use Prim.Native.Nat.{ℕ, _≤_}
+use Prim.Native.Nat.{ℕ, _+_, _-_, _*_, _≤_}
 use native.Mathlib.Decide.{ℕ-discrete}
 use native.Mathlib.Omega.{arith}
-use lib.ListN.{length-set}
+use lib.Dec.{lit≤}
+use lib.ListN.{length, length-set}
 use Rattle.lists.proofs.Choice.{same-yes, same-no}
 use Rattle.lists.proofs.Held.{nth-set, nth-set-other}
 use Rattle.sheet.specs.Format.{trainsOf}
 use Rattle.sheet.specs.Numbers.{Numbers, numbersIn}
 use Rattle.sheet.specs.Accepted.{Lengths, AcceptedSheet, SameNumbers, withDelay}
-use Rattle.sheet.proofs.Lengths.{layout, bytes-bits}
+use Rattle.sheet.proofs.Lengths.{layout, bytes-bits, train-within}
 use Rattle.decoder.specs.declared.Columns.{Columns}
 use Rattle.decoder.specs.Decode.{listsOf}
 use Rattle.amend.specs.Steps.{withDelayIn, DelayRoom}
@@ -45,9 +46,10 @@ module _ (c : Columns) (i v : ℕ) (long : Lengths 64 2080 (listsOf c)) where
 pub delay-room : (s : List ℕ) (i v : ℕ) → AcceptedSheet s → 1 ≤ i → i ≤ trainsOf s → v ≤ 1440 → DelayRoom s i v
 delay-room s i v ok a b small =
     let bits = bytes-bits (trainsOf s) in
+    let room : 18 + 33 * trainsOf s ≤ 8 * length s = omega (arith, ok .long, layout (trainsOf s)) in
     record {
       least = a;
-      most = omega (arith, ok .numbers .trains-most);
-      within = omega (arith, ok .long, layout (trainsOf s));
+      within = train-within s (trainsOf s) 40 11 (i - 1) room (ok .numbers .trains-most) (lit≤ tt) (lit≤ tt)
+          (omega arith);
       small = small;
     }

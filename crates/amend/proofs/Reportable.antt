@@ -16,17 +16,18 @@ use Rattle.rail.proofs.Checks.{first-fine, fine-first, first-refused}
 use Rattle.rail.proofs.Refusing.{only-fine, only-below, only-then, only-first}
 use Rattle.line.specs.Ranges.{limit}
 use Rattle.cells.specs.Place.{tableOf}
+use Rattle.cells.specs.Given.{LaterInRange}
 use Rattle.amend.specs.Checks.{cellVerdict, rowVerdict, laterVerdict, ownVerdict, Reportable, FirstOver}
 
 module _ (m i v : ℕ) (cells : List ℕ) where
-  later-of-fine : laterVerdict m cells i ≡ Fine → (k l : ℕ) → i < k → k ≤ l → l ≤ m → tableOf m cells k l ≤ limit
+  later-of-fine : laterVerdict m cells i ≡ Fine → LaterInRange m i cells
   unfolding laterVerdict rowVerdict cellVerdict
   later-of-fine e k l a b c =
       let row = first-fine (rowVerdict m cells) _ _ e k (omega arith) (omega arith) in
       let cell = first-fine (cellVerdict m cells k) _ _ row l b (omega arith) in
       not-below _ _ _ (then-fine _ _ cell .0)
 
-  pub fine-of-later : ((k l : ℕ) → i < k → k ≤ l → l ≤ m → tableOf m cells k l ≤ limit) → laterVerdict m cells i ≡ Fine
+  pub fine-of-later : LaterInRange m i cells → laterVerdict m cells i ≡ Fine
   unfolding laterVerdict rowVerdict cellVerdict
   fine-of-later h =
       fine-first (rowVerdict m cells) _ _ (λ k a b.

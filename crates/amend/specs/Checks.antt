@@ -2,7 +2,7 @@
 --   cellVerdict m cells k l         12 for cell (k, l) of a line of m trains
 --   rowVerdict m cells k            12 for the cells in use of row k
 --   laterVerdict m cells i          12 for the rows after train i, the first first
---   ownVerdict m i v cells     11, 6, 12 for a report of v minutes for train i
+--   ownVerdict m i v cells          11, 6, 12 for a report of v minutes for train i
 --   Reportable m i v cells          none of them
 --   FirstOver m i cells k           row k is the first after train i with a cell in use over the limit
 -- Assumes nothing.
@@ -15,6 +15,7 @@ use Rattle.rail.specs.Refusal.{train}
 use Rattle.rail.specs.Verdict.{refuse_when_below_, _andThen_, firstOf}
 use Rattle.line.specs.Ranges.{limit}
 use Rattle.cells.specs.Place.{tableOf}
+use Rattle.cells.specs.Given.{LaterInRange}
 
 unfoldable pub cellVerdict : ℕ → List ℕ → ℕ → ℕ → Verdict
 cellVerdict m cells k l = (refuse (CellOverLimit k) when limit below tableOf m cells k l) andThen Fine
@@ -39,7 +40,7 @@ pub record Reportable (m i v : ℕ) (cells : List ℕ) : Type 0 where
   pub least : 1 ≤ i
   pub most : i ≤ m
   pub delay : v ≤ 1440
-  pub later : (k l : ℕ) → i < k → k ≤ l → l ≤ m → tableOf m cells k l ≤ limit
+  pub later : LaterInRange m i cells
 
 -- what 12 and its place are for, as plain facts
 pub record FirstOver (m i : ℕ) (cells : List ℕ) (k : ℕ) : Type 0 where

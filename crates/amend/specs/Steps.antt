@@ -5,7 +5,9 @@
 -- Assumes nothing.
 use Prim.Native.Nat.{ℕ, _+_, _-_, _*_, _≤_}
 use mathlib.Core.List.{List}
-use lib.ListN.{length, set}
+use lib.ListN.{set}
+use Rattle.bits.specs.Field.{Within}
+use Rattle.sheet.specs.Format.{delayColumn}
 use Rattle.decoder.specs.declared.Columns.{Columns}
 
 abbrev pub withDelayIn : Columns → ℕ → ℕ → Columns
@@ -17,9 +19,7 @@ withDelayIn c i v =
       passengers = c .passengers;
     }
 
--- the head has 18 bits and each train 33, of which the delay is the last 11
 pub record DelayRoom (s : List ℕ) (i v : ℕ) : Type 0 where
   pub least : 1 ≤ i
-  pub most : i ≤ 64
-  pub within : 18 + 33 * i ≤ 8 * length s
+  pub within : Within s (delayColumn .first + delayColumn .step * (i - 1)) (delayColumn .width)
   pub small : v ≤ 1440

@@ -3,14 +3,14 @@
 -- Assumes nothing.
 use mathlib.Core.List.{List}
 use mathlib.Core.Logic.{inl, inr}
-use Prim.Native.Nat.{ℕ, _≤_, _<_}
+use Prim.Native.Nat.{ℕ, _≤_}
 use native.Mathlib.Nat.{le-trans, le-of-eq}
 use native.Mathlib.Omega.{arith}
 use Rattle.lists.proofs.Order.{lt-or-ge}
 use Rattle.line.specs.Ranges.{limit, RunningInRange, BookInRange}
 use Rattle.line.proofs.Bounds as bounds
 use Rattle.cells.specs.Place.{tableOf, RowsWorked}
-use Rattle.cells.specs.Given.{boardedIn, runningIn, bookIn, RunningGiven, Given, CellsInRange}
+use Rattle.cells.specs.Given.{boardedIn, runningIn, bookIn, RunningGiven, Given, LaterInRange, CellsInRange}
 use Rattle.cells.proofs.Places.{table-past}
 use Rattle.cells.proofs.Leavers.{aboard-le}
 
@@ -32,7 +32,7 @@ module _ (m : ℕ) (slack source period sums : List ℕ) (given : Given m slack 
 
   -- worked rows are in range by themselves, later rows if they were
   pub worked-in-range : (t : ℕ) (before after : List ℕ) → RowsWorked (bookIn m slack source period sums) t before after
-      → ((k l : ℕ) → t < k → k ≤ l → l ≤ m → tableOf m before k l ≤ limit) → CellsInRange m after
+      → LaterInRange m t before → CellsInRange m after
   worked-in-range t before after W later k l a b c = elim (lt-or-ge t k) [
     | inl u ↦ le-trans (le-of-eq (W .worked .stand k l u b c)) (later k l u b c)
     | inr u ↦ bounds.cell-le _ book-in-range k a t _ _ (W .worked) u l b c

@@ -6,7 +6,8 @@
 --   runningIn slack source                how the trains run
 --   bookIn m slack source period sums     the book that the lists make
 --   RunningGiven, PeriodGiven, SumsGiven, Given     the lists have the right lengths, and their numbers are in range
---   CellsInRange m cells                  every cell in use is at most document 01's limit
+--   LaterInRange m t cells                every cell in use of the rows after t is at most document 01's limit
+--   CellsInRange m cells                  every cell in use is
 -- Assumes nothing.
 use Prim.Native.Nat.{ℕ, _+_, _-_, _≤_, _<_}
 use mathlib.Core.Path.{_≡_}
@@ -66,5 +67,8 @@ pub record Given (m : ℕ) (slack source period sums : List ℕ) : Type 0 where
   pub periods : PeriodGiven m period
   pub leavers : SumsGiven m sums
 
+abbrev pub LaterInRange : ℕ → ℕ → List ℕ → Type 0
+LaterInRange m t cells = (k l : ℕ) → t < k → k ≤ l → l ≤ m → tableOf m cells k l ≤ limit
+
 abbrev pub CellsInRange : ℕ → List ℕ → Type 0
-CellsInRange m cells = (k l : ℕ) → 1 ≤ k → k ≤ l → l ≤ m → tableOf m cells k l ≤ limit
+CellsInRange m cells = LaterInRange m 0 cells

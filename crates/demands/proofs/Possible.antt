@@ -4,7 +4,7 @@
 use mathlib.Core.Path.{_≡_, refl, sym, ap, ap₂, _∙_}
 use mathlib.Core.List.{List}
 use mathlib.Core.Logic.{_⊎_, inl, inr}
-use Prim.Native.Nat.{ℕ, _+_, _-_, _*_, _≤_, _<_}
+use Prim.Native.Nat.{ℕ, _+_, _-_, _≤_, _<_}
 use native.Mathlib.Nat.{le-refl}
 use native.Mathlib.Omega.{arith}
 use lib.ListN.{length, getD, replicate, List·getD-eq-default}
@@ -193,7 +193,7 @@ module _ (s : List ℕ) (bytes : Bytes s) (i v : ℕ) (before : Buffers) where
   amendable : AcceptedSheet s → 1 ≤ i → i ≤ trainsOf s → v ≤ 1440 → (t : List ℕ) × DelayReplaced s i v t
   amendable ok least most small =
       let room = delay-room s i v ok least most small in
-      let found = puttable s (40 + 33 * (i - 1)) 11 v bytes (omega (arith, room .least, room .within)) (omega arith) in
+      let found = puttable s _ 11 v bytes (room .within .inside) (omega arith) in
       (found .result, record { bytes = found .bytes; put = found .put })
 
   when-fine : reportVerdict s i v before ≡ Fine → ReportPossible s i v before

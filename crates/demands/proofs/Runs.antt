@@ -16,7 +16,6 @@ use Rattle.rail.proofs.Checks.{refused-not-fine, fine-or-refused}
 use Rattle.rail.proofs.Refusing.{Only, only-below, only-then}
 use Rattle.line.specs.Line.{Line, lineFrom}
 use Rattle.line.specs.Cells.{Table, Book, bookOf, Worked}
-use Rattle.line.specs.Ranges.{limit}
 use Rattle.line.proofs.Alike.{books-of-lines}
 use Rattle.line.proofs.Tables.{worked-one, reworked-is-worked}
 use Rattle.line.proofs.Bounds.{cell-le}
@@ -29,6 +28,7 @@ use Rattle.sheet.proofs.Facts.{fine-of-accepted}
 use Rattle.sheet.proofs.Meaning.{same-sym}
 use Rattle.sheet.proofs.Amend.{replaced-numbers, replaced-accepted}
 use Rattle.cells.specs.Place.{tableOf, InUse}
+use Rattle.cells.specs.Given.{CellsInRange}
 use Rattle.cells.proofs.Places.{table-in}
 use Rattle.amend.specs.Checks.{ownVerdict, Reportable}
 use Rattle.amend.proofs.Reportable.{fine-of-later}
@@ -57,8 +57,7 @@ record Standing (s cells : List ℕ) : Type 0 where
   worked : Worked (bookOf (lineOf (numbersOf s))) (trainsOf s) old (tableOf (trainsOf s) cells)
 
 -- no cell in use is over the limit
-within : (s cells : List ℕ) → Standing s cells → (k l : ℕ) → 1 ≤ k → k ≤ l → l ≤ trainsOf s
-    → tableOf (trainsOf s) cells k l ≤ limit
+within : (s cells : List ℕ) → Standing s cells → CellsInRange (trainsOf s) cells
 unfolding lineOf lineFrom
 within s cells h k l a b c =
     let L = lineOf (numbersOf s) in

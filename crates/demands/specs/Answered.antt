@@ -78,8 +78,8 @@ pub record ReportAnswered (s : List ℕ) (i v : ℕ) (before : Buffers) (t : Lis
     : Type 0 where
   pub answered : Answered (reportVerdict s i v before) (AcceptedSheet s × Reportable (trainsOf s) i v (before .cells))
       (trainsOf s) i before after a
-  -- Its own refusals, where buffers and sheet are right: 11; then 6, at the train; then 12, at the first
-  -- row after the train with a cell in use over the limit.
+  -- Its own refusals, where buffers and sheet are right: 11; then 6, at the train; then 12, at the first row after the
+  -- train with a cell in use over the limit.
   pub no-train : RightLengths before → AcceptedSheet s → (i < 1) ⊎ (trainsOf s < i) → Carries NoSuchTrain a
   pub too-late : RightLengths before → AcceptedSheet s → 1 ≤ i → i ≤ trainsOf s → 1440 < v
       → Carries (NewDelay (train i)) a

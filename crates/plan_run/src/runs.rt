@@ -1,6 +1,5 @@
 // Runs: one sheet and one set of working cells, kept over several steps. A step sets a cell ('C'),
 // plans ('P') or reports a delay ('D').
-use crate::kept;
 use crate::lengths;
 use crate::marks;
 use crate::printed;
@@ -71,10 +70,10 @@ fn answer(
     }
 }
 
-// A step that plans or reports, into decisions and delays that hold a pattern.
-fn ask(from: i32, asked: Asked, sheet: &mut [u8], cells: &mut [u64], full: bool) {
+// A step that plans or reports, into decisions and delays that hold a pattern; `before` is what the
+// cells hold.
+fn ask(from: i32, asked: Asked, sheet: &mut [u8], before: &[u64], cells: &mut [u64], full: bool) {
     let n = lengths::next(from);
-    let before = kept::copy(cells);
     let mut decisions = [7u8; 70];
     let mut delays = [77777u32; 70];
     let a = answer(
@@ -87,7 +86,7 @@ fn ask(from: i32, asked: Asked, sheet: &mut [u8], cells: &mut [u64], full: bool)
     show(
         sheet,
         a,
-        &before,
+        before,
         cells,
         parts::bytes(&decisions, n.decisions),
         parts::numbers(&delays, n.delays),
@@ -112,13 +111,13 @@ fn put(from: i32, cells: &mut [u64]) {
 }
 
 // One step of a kind.
-fn step(from: i32, kind: u32, sheet: &mut [u8], cells: &mut [u64], full: bool) {
+fn step(from: i32, kind: u32, sheet: &mut [u8], before: &[u64], cells: &mut [u64], full: bool) {
     if kind == CELL {
         put(from, cells);
     } else if kind == PLAN {
-        ask(from, Asked::Plan, sheet, cells, full);
+        ask(from, Asked::Plan, sheet, before, cells, full);
     } else if kind == REPORT {
-        ask(from, reported(from), sheet, cells, full);
+        ask(from, reported(from), sheet, before, cells, full);
     }
 }
 
@@ -127,7 +126,8 @@ fn steps(from: i32, sheet: &mut [u8], full: bool) {
     let mut cells = marks::all();
     let mut left = short(from);
     while 0 < left {
-        step(from, byte(from), sheet, &mut cells, full);
+        let before = cells;
+        step(from, byte(from), sheet, &before, &mut cells, full);
         left -= 1;
     }
 }

@@ -1,6 +1,6 @@
 // What plan or report answered and left, as it is printed behind the operation's name.
 ghost use Prim.Native.Nat.{_≤_};
-use crate::kept;
+use crate::changes::changed;
 use crate::printed;
 use planner::Answer;
 use records::sums;
@@ -53,6 +53,6 @@ pub fn lists(sheet: &[u8], a: Answer, cells: &[u64], decisions: &[u8], delays: &
 // How many cells are not as they were.
 pub fn changes(before: &[u64], cells: &[u64]) {
     say::word(b"changed");
-    say::next(kept::changed(before, cells) as u64);
+    say::next(changed(before, cells) as u64);
     say::end();
 }

@@ -29,6 +29,7 @@ unfoldable pub reportVerdict : List ℕ → ℕ → ℕ → Buffers → Verdict
 reportVerdict s i v b = buffersVerdict b andThen sheetVerdict s andThen ownVerdict (trainsOf s) i v (b .cells)
 
 pub record Reported (s : List ℕ) (i v : ℕ) (before : Buffers) (t : List ℕ) (after : Buffers) (a : Answer) : Type 0 where
+  -- the answer is a total
   pub answer : a ≡ Accepted (answerTotal a)
   -- Accepted: that field of the sheet is replaced
   pub sheet : DelayReplaced s i v t

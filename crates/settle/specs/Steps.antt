@@ -3,13 +3,12 @@
 --   Sound m T L                  lists as they come of a sheet taken apart, their numbers in range
 --   SlackGiven, Slacks           what taking the slacks needs and leaves
 -- Assumes nothing.
-use Prim.Native.Nat.{ℕ, _+_, _-_, _≤_, _<_}
+use Prim.Native.Nat.{ℕ, _+_, _-_, _≤_}
 use mathlib.Core.Path.{_≡_}
 use mathlib.Core.List.{List}
 use lib.ListN.{length}
 use Rattle.lists.specs.Run.{nth}
-use Rattle.line.specs.Ranges.{limit}
-use Rattle.cells.specs.Place.{tableOf}
+use Rattle.cells.specs.Given.{LaterInRange}
 use Rattle.sheet.specs.Numbers.{Lists, numbersIn}
 use Rattle.sheet.specs.Accepted.{Lengths, InRange}
 use Rattle.settle.specs.Buffers.{Buffers, RightLengths}
@@ -18,7 +17,7 @@ use Rattle.settle.specs.Buffers.{Buffers, RightLengths}
 pub record Workable (m t : ℕ) (b : Buffers) : Type 0 where
   pub last : t ≤ m
   pub lengths : RightLengths b
-  pub later : (k l : ℕ) → t < k → k ≤ l → l ≤ m → tableOf m (b .cells) k l ≤ limit
+  pub later : LaterInRange m t (b .cells)
 
 pub record Sound (m T : ℕ) (L : Lists) : Type 0 where
   pub lengths : Lengths 64 2080 L

@@ -14,25 +14,20 @@ index-requires c κs = search needs
 mul-put : tie.Need-mul-put
 mul-put c =
     let at = c .before .before in
-    rw (at .before .delays .ensures) (omega (arith, at .index .ensures, at .before .before .before .pre .most))
+    rw (at .before .delays .ensures)
+    (omega (arith, at .index .ensures, at .before .before .before .pre .within .near))
 
 add-put : tie.Need-add-put
 add-put c =
     let at = c .before .before .before in
-    rw (at .before .delays .ensures) (omega (arith, at .index .ensures, at .before .before .before .pre .most))
+    rw (at .before .delays .ensures)
+    (omega (arith, at .index .ensures, at .before .before .before .pre .within .near))
 
 put-requires : tie.Need-put-requires
 put-requires c κs =
     let at = c .before .before .before in
     let room = at .before .before .before .pre in
-    rw (at .before .delays .ensures) (
-      record {
-        inside = omega (arith, at .index .ensures, room .least, room .within);
-        narrow = omega arith;
-        near = omega (arith, at .index .ensures, room .most);
-      },
-      omega (arith, room .small),
-    )
+    rw (at .before .delays .ensures, at .index .ensures) (room .within, omega (arith, room .small))
 
 same-length : tie.Need-same-length
 same-length c = search needs

@@ -26,6 +26,9 @@ byte-requires c κs = search needs
 slice-aggregate-step : tie.Need-slice-aggregate-step Inv-loop μ-loop
 slice-aggregate-step c = search needs
 
+slice-aggregate-step-2 : tie.Need-slice-aggregate-step-2 Inv-loop μ-loop
+slice-aggregate-step-2 c = search needs
+
 step-requires : tie.Need-step-requires Inv-loop μ-loop
 step-requires c κs = search needs
 
@@ -55,6 +58,7 @@ steps-spec =
     loop-holds
     byte-requires
     slice-aggregate-step
+    slice-aggregate-step-2
     step-requires
     sub-left
     loop-less

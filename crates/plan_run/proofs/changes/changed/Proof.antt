@@ -1,10 +1,10 @@
--- `kept::changed` is safe and ends: it counts no more than the places passed, and the places left fall.
+-- `changes::changed` is safe and ends: it counts no more than the places passed, and the places left fall.
 -- Assumes nothing.
 use borrow.Author.Needs.{needs}
 use Prim.Native.Nat.{_≤_, _-_}
 use lib.ListN.{length}
-use Rattle.plan_run.proofs.kept.changed.Statement.{statement}
-use Rattle.plan_run.proofs.kept.changed.Tie as tie
+use Rattle.plan_run.proofs.changes.changed.Statement.{statement}
+use Rattle.plan_run.proofs.changes.changed.Tie as tie
 
 abbrev Inv-loop : tie.InvT-loop
 Inv-loop before cells n₀ k₀ n k = (k ≤ length cells) × (n ≤ k)

@@ -1,20 +1,9 @@
-// What the working cells held before a step, kept to tell how many it changed.
+// How many working cells a step changed, by what they held before.
 ghost use Prim.Native.Nat.{_≤_};
 
 // What stands at a place, 0 behind the last.
 fn at(cells: &[u64], k: usize) -> u64 {
     if k < cells.len() { cells[k] } else { 0 }
-}
-
-// A copy of the cells.
-pub fn copy(cells: &[u64]) -> [u64; 4100] {
-    let mut kept = [0u64; 4100];
-    let mut k = 0;
-    while k < 4100 {
-        kept[k] = at(cells, k);
-        k += 1;
-    }
-    kept
 }
 
 // 1 where two values differ.
