@@ -5,17 +5,13 @@ use mathlib.Core.Path.{_≡_, refl, sym, ap, subst}
 use mathlib.Core.List.{List}
 use Prim.Native.Nat.{ℕ, _≤_}
 use native.Mathlib.Omega.{arith}
-use Rattle.lists.specs.Choice.{ifBelow, ifSame}
+use Rattle.lists.specs.Choice.{ifSame}
 use Rattle.lists.specs.Run.{runOf, listed}
 use Rattle.bits.specs.Field.{bitAt, fieldOf}
-use Rattle.line.specs.Sum.{sum_from_to_}
 use Rattle.line.specs.Line.{Line, lineFrom}
-use Rattle.line.specs.Policy.{arrival, excess, departure}
-use Rattle.line.specs.Cells.{leaving, aboard, runFrom, excessOn, arrivalOn, keepCost, goCost, cellBy, choice, begins}
-use Rattle.line.specs.Cells.{policyBy, decide}
 use Rattle.line.specs.Alike.{LinesAlike}
 use Rattle.line.specs.Ways.{Answer as CaseAnswer}
-use Rattle.line.specs.Cases.{lineB, delaysB7, delaysB8, b7, b8}
+use Rattle.line.specs.Cases.{lineB, delaysB7, delaysB8}
 use Rattle.line.proofs.Days.{lines-alike-trans}
 use Rattle.sheet.specs.Format.{trainsOf, entry}
 use Rattle.sheet.specs.Numbers.{Numbers, numbersOf}
@@ -32,8 +28,8 @@ use Rattle.planner.specs.Outcome.{answerNumber}
 use Rattle.demands.specs.Sheets.{sheetB, Leaves, ReportAfterB4, AnswersB7, AnswersB8}
 use Rattle.demands.specs.Runs.{InRun, planned, reported, ReportInRun}
 use Rattle.demands.proofs.Runs.{demand-3}
-use Rattle.demands.proofs.Printed.{pairRows, lines-same, printedCells, Printed, leaves}
-use Rattle.demands.proofs.Sheets.{sheet-b-accepted, answers-b}
+use Rattle.demands.proofs.Printed.{pairRows, lines-same, Printed, leaves}
+use Rattle.demands.proofs.Sheets.{sheet-b-accepted, printed, answers-b}
 
 -- ---- the lines of the sheet after one report and after both
 
@@ -50,16 +46,6 @@ line-of-b7 = lines-same 3 10 _ _ _ _ _ _ _ _ refl refl refl refl
 line-of-b8 : LinesAlike 1 (lineOf numbersB8) (lineB 10 delaysB8)
 unfolding lineOf passengersOfPair fieldOfPair fieldsUpTo bitAt fieldOf entry pairRows listed runOf ifSame
 line-of-b8 = lines-same 3 10 _ _ _ _ _ _ _ _ refl refl refl refl
-
-printed-b7 : Printed (lineB 10 delaysB7) b7
-unfolding ifBelow ifSame runOf listed sum_from_to_ lineFrom arrival excess departure leaving aboard runFrom excessOn arrivalOn
-    keepCost goCost cellBy choice begins policyBy decide pairRows printedCells
-printed-b7 = record { rule = refl; corner = refl; decisions = refl; delays = refl }
-
-printed-b8 : Printed (lineB 10 delaysB8) b8
-unfolding ifBelow ifSame runOf listed sum_from_to_ lineFrom arrival excess departure leaving aboard runFrom excessOn arrivalOn
-    keepCost goCost cellBy choice begins policyBy decide pairRows printedCells
-printed-b8 = record { rule = refl; corner = refl; decisions = refl; delays = refl }
 
 pub trains-b : trainsOf sheetB ≡ 3
 unfolding bitAt fieldOf
@@ -98,7 +84,7 @@ module _ (after4 : Buffers) (a4 : Answer) (t : List ℕ) (before after : Buffers
 pub answers-b7 : AnswersB7
 unfolding lineFrom
 answers-b7 after4 a4 t before after a h =
-    report-leaves numbersB7 _ _ line-of-b7 printed-b7 sheetB 1 5 before t after a (h .right)
+    report-leaves numbersB7 _ _ line-of-b7 (printed .case-b7) sheetB 1 5 before t after a (h .right)
     (zero-b7 after4 a4 t before after a h) (step-b7 after4 a4 t before after a h)
     (same-b7 after4 a4 t before after a h)
 
@@ -112,6 +98,6 @@ answers-b8 after4 a4 t before7 after7 a7 u before after a h cells right report =
     let zero = step .accepts right (omega arith) second (omega arith) in
     let ok = step-b7 after4 a4 t before7 after7 a7 h .stands in
     let new = replaced-numbers t u 2 6 ok (omega arith) second (step .field zero) in
-    report-leaves numbersB8 _ _ line-of-b8 printed-b8 t 2 6 before u after a right zero step
+    report-leaves numbersB8 _ _ line-of-b8 (printed .case-b8) t 2 6 before u after a right zero step
     (same-both _ _ (withDelay (numbersOf t) 2 6) new
     (same-sym _ _ (with-delay-same (numbersOf t) numbersB7 2 6 same)))

@@ -2,7 +2,7 @@
 -- both.
 -- Assumes nothing.
 use mathlib.Core.Path.{_≡_, refl}
-use Rattle.lists.specs.Choice.{ifBelow}
+use Rattle.lists.specs.Choice.{ifBelow, ifSame}
 use Rattle.lists.specs.Run.{runOf, listed}
 use Rattle.bits.specs.Field.{bitAt, fieldOf}
 use Rattle.rail.specs.declared.Verdict.the-variants.{Fine}
@@ -13,7 +13,7 @@ use Rattle.line.specs.Policy.{arrival, excess, departure}
 use Rattle.line.specs.Cells.{leaving, aboard, runFrom, excessOn, arrivalOn, keepCost, goCost, cellBy, choice, begins}
 use Rattle.line.specs.Cells.{policyBy, decide}
 use Rattle.line.specs.Alike.{LinesAlike}
-use Rattle.line.specs.Cases.{lineA, lineB, delaysB, a as caseA, b4, b6}
+use Rattle.line.specs.Cases.{lineA, lineB, delaysB, delaysB7, delaysB8, a as caseA, b4, b6, b7, b8}
 use Rattle.sheet.specs.Format.{entry, bitsOf, bytesOf, pairsOf}
 use Rattle.sheet.specs.Numbers.{numbersOf}
 use Rattle.sheet.specs.Pairs.{fieldsUpTo, fieldOfPair, passengersOfPair}
@@ -53,31 +53,36 @@ line-of-sheet-b13 = lines-same 3 13 _ _ _ _ _ _ _ _ refl refl refl refl
 
 -- ---- the printed numbers agree with the rule
 
-printed-a : Printed lineA caseA
-unfolding ifBelow runOf listed sum_from_to_ lineFrom arrival excess departure leaving aboard runFrom excessOn arrivalOn
-    keepCost goCost cellBy choice begins policyBy decide pairRows printedCells
-printed-a = record { rule = refl; corner = refl; decisions = refl; delays = refl }
+-- of each case, its line and what is printed for it
+pub record AllPrinted : Type 0 where
+  pub case-a : Printed lineA caseA
+  pub case-b4 : Printed (lineB 10 delaysB) b4
+  pub case-b6 : Printed (lineB 13 delaysB) b6
+  pub case-b7 : Printed (lineB 10 delaysB7) b7
+  pub case-b8 : Printed (lineB 10 delaysB8) b8
 
-printed-b : Printed (lineB 10 delaysB) b4
-unfolding ifBelow runOf listed sum_from_to_ lineFrom arrival excess departure leaving aboard runFrom excessOn arrivalOn
-    keepCost goCost cellBy choice begins policyBy decide pairRows printedCells
-printed-b = record { rule = refl; corner = refl; decisions = refl; delays = refl }
-
-printed-b13 : Printed (lineB 13 delaysB) b6
-unfolding ifBelow runOf listed sum_from_to_ lineFrom arrival excess departure leaving aboard runFrom excessOn arrivalOn
-    keepCost goCost cellBy choice begins policyBy decide pairRows printedCells
-printed-b13 = record { rule = refl; corner = refl; decisions = refl; delays = refl }
+pub printed : AllPrinted
+unfolding ifBelow ifSame runOf listed sum_from_to_ lineFrom arrival excess departure leaving aboard runFrom excessOn
+    arrivalOn keepCost goCost cellBy choice begins policyBy decide pairRows printedCells
+printed =
+    record {
+      case-a = record { rule = refl; corner = refl; decisions = refl; delays = refl };
+      case-b4 = record { rule = refl; corner = refl; decisions = refl; delays = refl };
+      case-b6 = record { rule = refl; corner = refl; decisions = refl; delays = refl };
+      case-b7 = record { rule = refl; corner = refl; decisions = refl; delays = refl };
+      case-b8 = record { rule = refl; corner = refl; decisions = refl; delays = refl };
+    }
 
 -- ---- the three sheets
 
 pub answers-a : AnswersA
 unfolding lineFrom
-answers-a = leaves sheetA lineA _ sheet-a-accepted line-of-sheet-a printed-a
+answers-a = leaves sheetA lineA _ sheet-a-accepted line-of-sheet-a (printed .case-a)
 
 pub answers-b : AnswersB
 unfolding lineFrom
-answers-b = leaves sheetB (lineB 10 delaysB) _ sheet-b-accepted line-of-sheet-b printed-b
+answers-b = leaves sheetB (lineB 10 delaysB) _ sheet-b-accepted line-of-sheet-b (printed .case-b4)
 
 pub answers-b13 : AnswersB13
 unfolding lineFrom
-answers-b13 = leaves sheetB13 (lineB 13 delaysB) _ sheet-b13-accepted line-of-sheet-b13 printed-b13
+answers-b13 = leaves sheetB13 (lineB 13 delaysB) _ sheet-b13-accepted line-of-sheet-b13 (printed .case-b6)
