@@ -1,0 +1,54 @@
+-- `oblachura_read` meets its contract: it is read, once the list for the answer has its length.
+-- Assumes nothing.
+use borrow.Author.Needs.{needs}
+use Rattle.oblachura.proofs.Call.{call-told, call-unlisted}
+use Rattle.oblachura.proofs.oblachura_read.Statement.{statement}
+use Rattle.oblachura.proofs.oblachura_read.Tie as tie
+
+unlisted-requires : tie.Need-unlisted-requires
+unlisted-requires c κs = search needs
+
+returns : tie.Need-returns
+returns c = call-unlisted (c .before .if1 .taken) (c .unlisted .ensures)
+
+read-requires : tie.Need-read-requires
+read-requires c κs = search needs
+
+tell-reading-requires : tie.Need-tell-reading-requires
+tell-reading-requires c κs = search needs
+
+same-length : tie.Need-same-length
+same-length c = search needs
+
+same-length-2 : tie.Need-same-length-2
+same-length-2 c = search needs
+
+same-length-3 : tie.Need-same-length-3
+same-length-3 c = search needs
+
+same-length-4 : tie.Need-same-length-4
+same-length-4 c = search needs
+
+same-length-5 : tie.Need-same-length-5
+same-length-5 c = search needs
+
+returns-2 : tie.Need-returns-2
+returns-2 c =
+    let told = c .before .before in
+    let done = told .before .before .before .before .before .before .before .before .before .before in
+    call-told (done .before .before .before .before .before .if1 .left) (done .read .result) (done .read .ensures) (told .tell-reading .ensures)
+
+pub oblachura-read-spec : {M : Type 1} → statement M
+oblachura-read-spec =
+    tie.close
+    (tie.spec
+    unlisted-requires
+    returns
+    read-requires
+    tell-reading-requires
+    same-length
+    same-length-2
+    same-length-3
+    same-length-4
+    same-length-5
+    returns-2)

@@ -1,0 +1,42 @@
+-- `oblachura_write` meets its contract: it is write, once the list for the answer has its length.
+-- Assumes nothing.
+use borrow.Author.Needs.{needs}
+use Rattle.oblachura.proofs.Call.{call-told, call-unlisted}
+use Rattle.oblachura.proofs.oblachura_write.Statement.{statement}
+use Rattle.oblachura.proofs.oblachura_write.Tie as tie
+
+unlisted-requires : tie.Need-unlisted-requires
+unlisted-requires c κs = search needs
+
+returns : tie.Need-returns
+returns c = call-unlisted (c .before .if1 .taken) (c .unlisted .ensures)
+
+write-requires : tie.Need-write-requires
+write-requires c κs = search needs
+
+tell-writing-requires : tie.Need-tell-writing-requires
+tell-writing-requires c κs = search needs
+
+same-length : tie.Need-same-length
+same-length c = search needs
+
+same-length-2 : tie.Need-same-length-2
+same-length-2 c = search needs
+
+returns-2 : tie.Need-returns-2
+returns-2 c =
+    let told = c .before .before in
+    let done = told .before .before .before .before in
+    call-told (done .before .before .if1 .left) (done .write .result) (done .write .ensures) (told .tell-writing .ensures)
+
+pub oblachura-write-spec : {M : Type 1} → statement M
+oblachura-write-spec =
+    tie.close
+    (tie.spec
+    unlisted-requires
+    returns
+    write-requires
+    tell-writing-requires
+    same-length
+    same-length-2
+    returns-2)

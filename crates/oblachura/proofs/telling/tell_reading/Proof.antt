@@ -1,0 +1,46 @@
+-- `tell_reading` meets its contract: what is stored and returned is what the answer carries.
+-- Assumes nothing.
+use borrow.Author.Needs.{needs}
+use mathlib.Core.Path.{_≡_, _∙_}
+use Rattle.oblachura.proofs.telling.tell_reading.Statement.{statement}
+use Rattle.oblachura.proofs.telling.tell_reading.Tie as tie
+
+number-requires : tie.Need-number-requires
+number-requires c κs = search needs
+
+place-requires : tie.Need-place-requires
+place-requires c κs = search needs
+
+trains-requires : tie.Need-trains-requires
+trains-requires c κs = search needs
+
+period-requires : tie.Need-period-requires
+period-requires c κs = search needs
+
+store-four-requires : tie.Need-store-four-requires
+store-four-requires c κs = search needs
+
+same-length : tie.Need-same-length
+same-length c = search needs
+
+returns : tie.Need-returns
+returns c =
+    let called = c .before .before in
+    let period = called .before .period .ensures in
+    let trains = called .before .before .trains .ensures in
+    let place = called .before .before .before .before .place .ensures in
+    let number = called .before .before .before .before .before .number .ensures in
+    let stored = called .store-four .ensures in
+    (stored .0 ∙ number, stored .1 ∙ cc)
+
+pub tell-reading-spec : {M : Type 1} → statement M
+tell-reading-spec =
+    tie.close
+    (tie.spec
+    number-requires
+    place-requires
+    trains-requires
+    period-requires
+    store-four-requires
+    same-length
+    returns)

@@ -1,0 +1,4 @@
+pub mod Answers
+pub mod Call
+pub mod Calls
+pub mod Promises

@@ -1,0 +1,46 @@
+-- What a program in C may rely on, whatever keeps the four contracts: they leave nothing open, and 0 is returned exactly
+-- where the operation accepts.
+--   One Leaves                   no two differing results: Leaves after stored r says what a call leaves and returns
+--   Returns n list checks r      r by the length of the list and by the checks
+--   Promises                     both, of each call
+-- Assumes nothing.
+use Prim.Native.Nat.{ℕ}
+use mathlib.Core.Path.{_≡_}
+use mathlib.Core.List.{List}
+use lib.ListN.{length}
+use Rattle.rail.specs.declared.Verdict.{Verdict}
+use Rattle.rail.specs.declared.Verdict.the-variants.{Fine}
+use Rattle.rail.specs.Verdict.{numberIn}
+use Rattle.sheet.specs.Numbers.{Lists}
+use Rattle.reader.specs.Read.{readVerdict}
+use Rattle.writer.specs.Write.{Given, writeVerdict}
+use Rattle.settle.specs.Buffers.{Buffers}
+use Rattle.planner.specs.Plan.{planVerdict}
+use Rattle.planner.specs.Report.{reportVerdict}
+use Rattle.oblachura.specs.Calls.{ReadCall, WriteCall, PlanCall, Lent, ReportCall}
+
+abbrev pub One : {X : Type 0} → (X → List ℕ → ℕ → Type 0) → Type 0
+One {X} Leaves = (after after′ : X) (stored stored′ : List ℕ) (r r′ : ℕ) → Leaves after stored r
+    → Leaves after′ stored′ r′ → (after ≡ after′) × (stored ≡ stored′) × (r ≡ r′)
+
+pub record Returns (n : ℕ) (list : List ℕ) (checks : Verdict) (r : ℕ) : Type 0 where
+  -- the number of the first check that fails, 0 where all pass
+  pub listed : length list ≡ n → r ≡ numberIn checks
+  pub unlisted : ¬ (length list ≡ n) → r ≡ 10
+  -- and 0 in no other case
+  pub zero : r ≡ 0 → (length list ≡ n) × (checks ≡ Fine)
+
+pub record Promises : Type 0 where
+  pub one-read : (s : List ℕ) (before : Lists) (list : List ℕ) → One (ReadCall s before list)
+  pub one-write : (G : Given) (before list : List ℕ) → One (WriteCall G before list)
+  pub one-plan : (s : List ℕ) (before : Buffers) (list : List ℕ) → One (PlanCall s before list)
+  pub one-report : (i v : ℕ) (before : Lent) (list : List ℕ) → One (ReportCall i v before list)
+  pub read-returns : (s : List ℕ) (before : Lists) (list : List ℕ) (after : Lists) (stored : List ℕ) (r : ℕ)
+      → ReadCall s before list after stored r → Returns 4 list (readVerdict s before) r
+  pub write-returns : (G : Given) (before list after stored : List ℕ) (r : ℕ)
+      → WriteCall G before list after stored r → Returns 3 list (writeVerdict (length before) G) r
+  pub plan-returns : (s : List ℕ) (before : Buffers) (list : List ℕ) (after : Buffers) (stored : List ℕ) (r : ℕ)
+      → PlanCall s before list after stored r → Returns 3 list (planVerdict s before) r
+  pub report-returns : (i v : ℕ) (before : Lent) (list : List ℕ) (after : Lent) (stored : List ℕ) (r : ℕ)
+      → ReportCall i v before list after stored r
+      → Returns 3 list (reportVerdict (before .sheet) i v (before .buffers)) r
