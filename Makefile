@@ -1,5 +1,9 @@
 # The commands of the project. `make` alone lists them.
 
+SHELL = bash
+.SHELLFLAGS = -o pipefail -c
+# Two at once would build in one folder.
+.NOTPARALLEL:
 .PHONY: help run test archive tools outside example program boundary bench vectors wrong format
 
 help:
@@ -54,9 +58,10 @@ archive:
 
 outside: example program boundary
 
-# as C and as C++
+# as C and as C++; the header by itself also as older C
 example: tools archive
 	@mkdir -p $(BUILT)
+	@$(CC_X86) -std=c99 -pedantic $(WARN) -fsyntax-only -x c include/oblachura.h
 	@$(CC_X86) -std=c11 $(WARN) -Iinclude examples/line_b.c $(ARCHIVE) -o $(BUILT)/line_b
 	@$(EMULATOR) $(BUILT)/line_b | cmp - examples/line_b.out
 	@$(CXX_X86) -std=c++17 $(WARN) -Iinclude -x c++ examples/line_b.c -x none $(ARCHIVE) -o $(BUILT)/line_b_cpp
@@ -66,7 +71,7 @@ example: tools archive
 program: tools
 	$(RT)
 	@rt check plan > /dev/null 2>&1 || { rt check plan; exit 1; }
-	@bash tests/program.sh $(CURDIR)/target/bin/plan $(EMULATOR)
+	@bash tests/program.sh "$(CURDIR)/target/bin/plan" $(EMULATOR)
 
 # against document 01, then against each mistake that a reader of it might make
 boundary: tools archive

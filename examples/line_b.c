@@ -51,7 +51,7 @@ static uint32_t report(struct desk *desk, uint32_t train, uint32_t delay)
 }
 
 /* Shows what a call answered. A refused one shows its number and place and nothing of the buffers:
- * the plan that was shown before is no longer the plan of this line. */
+ * they are blank then or, on 10, hold what they held before the call. */
 static void show(const struct desk *desk, uint32_t number)
 {
     if (number != OBLACHURA_ACCEPTED) {

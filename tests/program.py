@@ -36,14 +36,19 @@ def by_hand():
     # slack 0: train 2 takes the 5 minutes
     yield 'c', sheet(C), 'total 10\n1 - 5\n2 keep 5\n'
     yield 'd', sheet(D), 'total 10\n1 - 0\n2 keep 10\n'
+    # one train: its delay is its source delay, and the total is its passengers times that
+    yield 'A, T 1440', sheet(A, T=1440), 'total 21\n1 - 7\n'
+    yield 'A, delay 1440', sheet(A, delays=[1440]), 'total 4320\n1 - 1440\n'
+    yield 'A, passengers 10000', sheet(A, passengers=[10000]), 'total 70000\n1 - 7\n'
     for name, data, number, place in refused_sheets():
         yield name, data, 'refused %d %d\n' % (number, place)
     # what stands past 3,908 bytes is not read, and changes nothing: 64 trains demand 3,907
     yield 'far too long', sheet(MOST) + bytes(5000), 'refused 4 0\n'
 
 
-def long_lines():
-    """Lines of 64 trains."""
+def by_reading():
+    """Name and sheet of lines whose plan 01 doesn't print."""
+    yield 'B, train 2 at 25', sheet(B, departures=[10, 25, 55])
     yield '64 trains', usual_line(64).sheet()
     yield '64 trains, all at their most', sheet(MOST)
 
@@ -52,7 +57,7 @@ def files():
     for name, data, text in by_hand():
         assert printed(data) == text, (name, printed(data), text)
         yield name, data, text
-    for name, data in long_lines():
+    for name, data in by_reading():
         yield name, data, printed(data)
 
 

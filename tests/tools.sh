@@ -3,11 +3,12 @@
 # machine, an emulator. Installs Debian's packages of what is missing, or tells which to install.
 set -euo pipefail
 
+needed='make:make cmp:diffutils'
 if [ "$(uname -m)" = x86_64 ]; then
-  needed='make:make gcc:gcc g++:g++'
+  needed="$needed gcc:gcc g++:g++"
 else
-  needed='make:make x86_64-linux-gnu-gcc:gcc-x86-64-linux-gnu x86_64-linux-gnu-g++:g++-x86-64-linux-gnu
-    qemu-x86_64:qemu-user'
+  needed="$needed x86_64-linux-gnu-gcc:gcc-x86-64-linux-gnu x86_64-linux-gnu-g++:g++-x86-64-linux-gnu
+    qemu-x86_64:qemu-user"
 fi
 
 missing() {
@@ -21,9 +22,9 @@ packages=$(missing | xargs)
 if [ "$(id -u)" = 0 ] && command -v apt-get > /dev/null; then
   echo "installing $packages" >&2
   { apt-get update && DEBIAN_FRONTEND=noninteractive apt-get install -y --no-install-recommends $packages; } >&2 || true
+  packages=$(missing | xargs)
 fi
-packages=$(missing | xargs)
 [ -z "$packages" ] || {
-  echo "the tests from outside need these packages, which could not be installed: $packages" >&2
+  echo "the tests from outside need more; as root: apt-get install $packages" >&2
   exit 1
 }

@@ -26,7 +26,8 @@ struct options {
 static const char usage[] =
     "usage: boundary [--seed N] [--calls N] [--seconds N] [--wrong] [--stack] [--help]\n"
     "  --seed N      where the numbers by chance begin (default 20041)\n"
-    "  --calls N     calls to make (default 200000)\n"
+    "  --calls N     calls to make (default 200000); from 20000 on every number has to be met,\n"
+    "                from 100000 on every m has to be accepted too\n"
     "  --seconds N   stop after that time (default 240); fails under a tenth of the calls\n"
     "  --wrong       let the paper side make each of its mistakes, which must be caught\n"
     "  --stack       print the bytes of stack of each operation and nothing else\n";
@@ -126,8 +127,8 @@ static int test_right(const struct options *options)
     if (!in_time)
         printf("stopped after %" PRIu64 " seconds%s\n", options->seconds,
                enough ? "" : ": TOO FEW CALLS");
-    bool met = tally.calls < ENOUGH_CALLS || all_met();
-    if (tally.calls >= ENOUGH_FOR_TRAINS)
+    bool met = options->calls < ENOUGH_CALLS || all_met();
+    if (options->calls >= ENOUGH_FOR_TRAINS)
         met &= all_trains_met();
     bool stack = stack_is_enough();
     if (!stack)
@@ -139,7 +140,8 @@ static int test_right(const struct options *options)
 }
 
 /* Tries one mistake in a process of its own, since a difference ends the program. The cases of the
- * paper are left out, so that it is the calls by chance that have to catch it. */
+ * paper are left out, so that it is the calls by chance that have to catch it. All mistakes share
+ * the seconds. */
 static bool caught(enum paper_mistake mistake, const struct options *options)
 {
     int status = 0;
@@ -149,7 +151,7 @@ static bool caught(enum paper_mistake mistake, const struct options *options)
     if (child == 0) {
         paper_wrong = mistake;
         tally.brief = true;
-        runs_by_chance((double)options->seconds);
+        runs_by_chance((double)options->seconds / PAPER_MISTAKES);
         printf("NOT CAUGHT in %" PRIu64 " calls\n", tally.calls);
         exit(0);
     }

@@ -45,7 +45,7 @@ static void expect_answer(const char *name, uint64_t number, uint64_t place, uin
 {
     expect(name, "number", 0, number, desk.answer[0]);
     expect(name, "place", 0, place, desk.answer[1]);
-    expect(name, "total", 0, third, desk.answer[2]);
+    expect(name, "third number", 0, third, desk.answer[2]);
 }
 
 static void expect_row(const char *name, uint32_t k, uint32_t m, const uint64_t *row)

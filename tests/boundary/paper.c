@@ -41,7 +41,12 @@ const char *const paper_mistakes[PAPER_MISTAKES] = {
     [OTHER_REFUSALS_DO_NOT_BLANK] = "other refusals do not blank",
     [REFUSED_REPORT_AMENDS_THE_SHEET] = "a report refused by 12 amends the sheet",
     [ANSWER_UNWRITTEN_ON_10] = "the answer is left unwritten on 10",
+    [ANSWER_WRITTEN_AT_ANOTHER_LENGTH] = "a wrong answer list is written",
+    [THIRD_NUMBER_KEPT_ON_A_REFUSAL] = "a refused read still answers m",
+    [M_AND_T_SWAPPED] = "read answers T, then m",
     [NUMBER_AND_PLACE_SWAPPED] = "number and place are swapped",
+    [TRAIN_1_SHOWS_KEEP] = "train 1 shows keep",
+    [PLAN_LEAVES_THE_REST] = "decisions and delays after m are left",
     [READ_LEAVES_THE_REST] = "read leaves the rest of its lists",
     [WRITE_CLEARS_THE_REST] = "write clears the rest of its bytes",
     [CELLS_NOT_IN_USE_CLEARED] = "cells not in use are cleared",
@@ -477,6 +482,14 @@ static uint64_t plan_line(const struct paper_line *line, uint64_t *cells, uint8_
 
 /* ---- "Four operations" ---- */
 
+/* A list for the answer of another length. */
+static struct paper_verdict say_nothing(uint64_t *answer, size_t answer_count)
+{
+    if (wrong(ANSWER_WRITTEN_AT_ANOTHER_LENGTH) && answer_count > 0)
+        answer[0] = 10;
+    return verdict(PAPER_LENGTH_ANSWER, 0);
+}
+
 /* Number and place, then what the call returns, 0 if it is refused. */
 static void say(uint64_t *answer, struct paper_verdict v, uint64_t third)
 {
@@ -485,7 +498,7 @@ static void say(uint64_t *answer, struct paper_verdict v, uint64_t third)
         return;
     answer[0] = wrong(NUMBER_AND_PLACE_SWAPPED) ? v.place : number;
     answer[1] = wrong(NUMBER_AND_PLACE_SWAPPED) ? number : v.place;
-    answer[2] = accepted(v) ? third : 0;
+    answer[2] = accepted(v) || wrong(THIRD_NUMBER_KEPT_ON_A_REFUSAL) ? third : 0;
 }
 
 /* The first m numbers, then 0 up to 64. */
@@ -517,7 +530,7 @@ struct paper_verdict paper_read(const uint8_t *sheet, size_t sheet_count,
 {
     struct paper_line line = {0};
     if (answer_count != 4)
-        return verdict(PAPER_LENGTH_ANSWER, 0);
+        return say_nothing(answer, answer_count);
     bool buffers = departures_count == 64 && driving_count == 64 && delays_count == 64
                    && passengers_count == 2080;
     struct paper_verdict v = check_buffers_and_sheet(buffers, sheet, sheet_count, &line);
@@ -527,9 +540,11 @@ struct paper_verdict paper_read(const uint8_t *sheet, size_t sheet_count,
         list_by_train(delays, line.source, line.m);
         list_passengers(passengers, &line);
     }
-    say(answer, v, line.m);
+    uint32_t m_and_t[2] = {line.m, line.period};
+    bool swapped = wrong(M_AND_T_SWAPPED);
+    say(answer, v, m_and_t[swapped]);
     if (v.outcome != PAPER_LENGTH_BUFFER || !wrong(ANSWER_UNWRITTEN_ON_10))
-        answer[3] = accepted(v) ? line.period : 0;
+        answer[3] = accepted(v) ? m_and_t[!swapped] : 0;
     return v;
 }
 
@@ -562,7 +577,7 @@ struct paper_verdict paper_write(uint32_t m, uint32_t period,
     struct paper_line line = {.m = m, .period = period};
     size_t by_train[3] = {departures_count, driving_count, delays_count};
     if (answer_count != 3)
-        return verdict(PAPER_LENGTH_ANSWER, 0);
+        return say_nothing(answer, answer_count);
     struct paper_verdict v = verdict(check_write(m, period, by_train, passengers_count,
                                                  sheet_count), 0);
     if (accepted(v)) {
@@ -594,10 +609,12 @@ static void show_plan(const struct paper_line *line, const uint8_t *keep,
     uint64_t arrival[65];
     bool missed[65];
     follow(line, keep, 1, arrival, missed);
-    memset(decisions, 0, 64);
-    memset(delays, 0, 64 * sizeof *delays);
+    if (!wrong(PLAN_LEAVES_THE_REST)) {
+        memset(decisions, 0, 64);
+        memset(delays, 0, 64 * sizeof *delays);
+    }
     for (uint32_t i = 1; i <= line->m; i++) {
-        decisions[i - 1] = i >= 2 ? keep[i] : 0;
+        decisions[i - 1] = i >= 2 ? keep[i] : wrong(TRAIN_1_SHOWS_KEEP);
         delays[i - 1] = (uint32_t)arrival[i];
     }
 }
@@ -633,7 +650,7 @@ struct paper_verdict paper_plan(const uint8_t *sheet, size_t sheet_count,
     uint8_t keep[65] = {0};
     uint64_t total = 0;
     if (answer_count != 3)
-        return verdict(PAPER_LENGTH_ANSWER, 0);
+        return say_nothing(answer, answer_count);
     bool buffers = plan_buffers(cells_count, decisions_count, delays_count);
     struct paper_verdict v = check_buffers_and_sheet(buffers, sheet, sheet_count, &line);
     if (accepted(v)) {
@@ -704,7 +721,7 @@ struct paper_verdict paper_report(uint8_t *sheet, size_t sheet_count,
     uint8_t keep[65] = {0};
     uint64_t total = 0;
     if (answer_count != 3)
-        return verdict(PAPER_LENGTH_ANSWER, 0);
+        return say_nothing(answer, answer_count);
     bool buffers = plan_buffers(cells_count, decisions_count, delays_count);
     struct paper_verdict v = check_buffers_and_sheet(buffers, sheet, sheet_count, &line);
     if (accepted(v))

@@ -1,5 +1,7 @@
 /* The paper side of the boundary test: document 01's four operations as C sees them, worked out in
- * the most obvious way and from 01 alone, so that the archive can be compared with the paper.
+ * the most obvious way and from 01 alone, so that the archive can be compared with the paper. Two
+ * things that 01 leaves open are the header's: the list for the answer is looked at first of all,
+ * and read stores four numbers.
  *
  * Trains and stations count from 1, and so do the arrays of a line; train i leaves station i.
  * Numbers of 01 stand here and in paper.c as 01 prints them, not as the header names them. */
@@ -78,7 +80,12 @@ enum paper_mistake {
     OTHER_REFUSALS_DO_NOT_BLANK,
     REFUSED_REPORT_AMENDS_THE_SHEET,
     ANSWER_UNWRITTEN_ON_10,
+    ANSWER_WRITTEN_AT_ANOTHER_LENGTH,
+    THIRD_NUMBER_KEPT_ON_A_REFUSAL,
+    M_AND_T_SWAPPED,
     NUMBER_AND_PLACE_SWAPPED,
+    TRAIN_1_SHOWS_KEEP,
+    PLAN_LEAVES_THE_REST,
     READ_LEAVES_THE_REST,
     WRITE_CLEARS_THE_REST,
     CELLS_NOT_IN_USE_CLEARED,

@@ -14,7 +14,6 @@
 #include <unistd.h>
 
 #define STACK_ROOM (1024 * 1024)
-#define PAINT 0xD1
 
 static ucontext_t here, there;
 static enum operation operation;                 /* OPERATIONS is none: the cost of a call */
@@ -62,12 +61,12 @@ static uint8_t *make_stack(void)
 }
 
 /* The bytes of the stack that the operation painted over. */
-static size_t depth_of(enum operation asked)
+static size_t depth_of(enum operation asked, uint8_t paint)
 {
     static uint8_t *stack;
     if (stack == NULL)
         stack = make_stack();
-    memset(stack, PAINT, STACK_ROOM);
+    memset(stack, paint, STACK_ROOM);
     operation = asked;
     getcontext(&there);
     there.uc_stack.ss_sp = stack;
@@ -76,7 +75,7 @@ static size_t depth_of(enum operation asked)
     makecontext(&there, ask, 0);
     swapcontext(&here, &there);
     size_t untouched = 0;
-    while (untouched < STACK_ROOM && stack[untouched] == PAINT)
+    while (untouched < STACK_ROOM && stack[untouched] == paint)
         untouched++;
     return STACK_ROOM - untouched;
 }
@@ -97,13 +96,15 @@ static void lay_line(uint32_t trains)
     sheet_count = pack_line(&line, desk.sheet);
 }
 
-/* The paint may by chance be a byte that a call writes, so the deepest of three calls counts. The
- * first call is for whatever a program does once, when it first calls a function. */
+/* The paint may be the very byte that a call writes, so it is another at each of three calls, and
+ * the deepest counts. A call before them is for what a program does once, when it first calls a
+ * function. */
 static size_t stack_of(enum operation asked)
 {
     size_t deepest = 0;
+    static const uint8_t paints[4] = {0xD1, 0xD1, 0x2E, 0x97};
     for (int i = 0; i < 4; i++) {
-        size_t depth = depth_of(asked);
+        size_t depth = depth_of(asked, paints[i]);
         if (number != 0) {
             printf("stack: %s refused its line with %u\n", operation_name(asked), (unsigned)number);
             exit(1);

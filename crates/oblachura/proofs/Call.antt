@@ -12,58 +12,58 @@ use Rattle.rail.specs.declared.Verdict.{Verdict}
 use Rattle.rail.specs.Refusal.{numberOf}
 use Rattle.rail.specs.Verdict.{numberIn}
 use Rattle.rail.proofs.Refusing.{zero-is-fine}
-use Rattle.oblachura.specs.Call.{Told, Unlisted, Call}
+use Rattle.oblachura.specs.Call.{Told, Call}
 use Rattle.oblachura.specs.Promises.{One, Returns}
 
-module _ {X A : Type 0} {n : ℕ} {number : A → ℕ} {numbers : A → List ℕ} {Done : X → A → Type 0} {before : X}
+module _ {X A : Type 0} {n : ℕ} {number : A → ℕ} {numbers : A → List ℕ} {Leaves : X → A → Type 0} {before : X}
     {list : List ℕ} where
-  pub call-told : {after : X} {stored : List ℕ} {r : ℕ} → length list ≡ n → (a : A) → Done after a
-      → (r ≡ number a) × (stored ≡ numbers a) → Call n number numbers Done before list after stored r
+  pub call-told : {after : X} {stored : List ℕ} {r : ℕ} → length list ≡ n → (a : A) → Leaves after a
+      → (r ≡ number a) × (stored ≡ numbers a) → Call n number numbers Leaves before list after stored r
   call-told long a done told =
       record {
         told = λ e. record { answer = a; done = done; returns = told .0; stores = told .1 };
-        unlisted = λ other. absurd (other long);
+        wrong-list = λ other. absurd (other long);
       }
 
   -- nothing is written where the list has another length
-  pub call-unlisted : {r : ℕ} → ¬ (length list ≡ n) → r ≡ numberOf BufferLength
-      → Call n number numbers Done before list before list r
-  call-unlisted other returns =
+  pub call-wrong-list : {r : ℕ} → ¬ (length list ≡ n) → r ≡ numberOf BufferLength
+      → Call n number numbers Leaves before list before list r
+  call-wrong-list other returns =
       record {
         told = λ long. absurd (other long);
-        unlisted = λ o. record { returns = returns; stores = refl; kept = refl };
+        wrong-list = λ o. record { returns = returns; stores = refl; kept = refl };
       }
 
   -- where the operation leaves nothing open, neither does the call
-  pub call-one : ((after after′ : X) (a a′ : A) → Done after a → Done after′ a′ → (a ≡ a′) × (after ≡ after′))
-      → One (Call n number numbers Done before list)
+  pub call-one : ((after after′ : X) (a a′ : A) → Leaves after a → Leaves after′ a′ → (a ≡ a′) × (after ≡ after′))
+      → One (Call n number numbers Leaves before list)
   call-one one after after′ stored stored′ r r′ g h = elim (same-or-not (length list) n) [
     | inl long ↦
-        let t : Told number numbers (Done after) stored r = g .told long in
-        let u : Told number numbers (Done after′) stored′ r′ = h .told long in
+        let t : Told number numbers (Leaves after) stored r = g .told long in
+        let u : Told number numbers (Leaves after′) stored′ r′ = h .told long in
         let same = one after after′ (t .answer) (u .answer) (t .done) (u .done) in (
           same .1,
           t .stores ∙ ap numbers (same .0) ∙ sym (u .stores),
           t .returns ∙ ap number (same .0) ∙ sym (u .returns),
         )
     | inr other ↦
-        let t = g .unlisted other in
-        let u = h .unlisted other in
+        let t = g .wrong-list other in
+        let u = h .wrong-list other in
         (t .kept ∙ sym (u .kept), t .stores ∙ sym (u .stores), t .returns ∙ sym (u .returns))
   ]
 
   -- where the answer carries the number of the checks, the call returns it
   pub call-returns : {after : X} {stored : List ℕ} {r : ℕ} (checks : Verdict)
-      → ((a : A) → Done after a → number a ≡ numberIn checks) → Call n number numbers Done before list after stored r
+      → ((a : A) → Leaves after a → number a ≡ numberIn checks) → Call n number numbers Leaves before list after stored r
       → Returns n list checks r
   call-returns {r = r} checks carries h =
       let listed : length list ≡ n → r ≡ numberIn checks =
       λ long. h .told long .returns ∙ carries (h .told long .answer) (h .told long .done) in
       record {
         listed = listed;
-        unlisted = λ other. h .unlisted other .returns;
+        wrong-list = λ other. h .wrong-list other .returns;
         zero = λ e. elim (same-or-not (length list) n) [
           | inl long ↦ (long, zero-is-fine checks (sym (listed long) ∙ e))
-          | inr other ↦ let ten = h .unlisted other .returns in absurd (omega (arith, e, ten))
+          | inr other ↦ let ten = h .wrong-list other .returns in absurd (omega (arith, e, ten))
         ];
       }

@@ -1,3 +1,4 @@
 pub mod Stores
 pub mod Call
+pub mod Refused
 pub mod Promises

@@ -1,16 +1,46 @@
 -- The promises of the four calls from C hold, each by the operation's own.
 -- Assumes nothing.
-use mathlib.Core.Path.{ap}
-use Rattle.reader.specs.Read.{readVerdict}
-use Rattle.reader.proofs.Outcome.{read-one}
-use Rattle.writer.specs.Write.{writeVerdict}
-use Rattle.writer.proofs.Outcome.{write-one}
-use Rattle.planner.specs.Plan.{planVerdict}
+use Prim.Native.Nat.{ℕ}
+use mathlib.Core.Path.{_≡_, ap, _∙_}
+use mathlib.Core.Logic.{inl, inr}
+use mathlib.Core.List.{List}
+use lib.ListN.{length}
+use Rattle.lists.proofs.Order.{same-or-not}
+use Rattle.rail.specs.Verdict.{numberIn}
+use Rattle.rail.proofs.Checks.{fine-or-refused}
+use Rattle.settle.specs.Buffers.{Buffers}
 use Rattle.planner.specs.Report.{reportVerdict}
+use Rattle.reader.proofs.Outcome.{read-one}
+use Rattle.writer.proofs.Outcome.{write-one}
 use Rattle.planner.proofs.Outcome.{plan-outcome-one, report-outcome-one}
-use Rattle.oblachura.specs.Calls.{Lent, lent}
-use Rattle.oblachura.specs.Promises.{Promises}
+use Rattle.oblachura.specs.Calls.{PlanCall, Lent, lent, ReportCall}
+use Rattle.oblachura.specs.Promises.{Refuses, Promises}
 use Rattle.oblachura.proofs.Call.{call-one, call-returns}
+use Rattle.oblachura.proofs.Refused.{kept-refuses, outcome-refuses}
+
+plan-refuses : (s : List ℕ) (before : Buffers) (list : List ℕ) (after : Buffers) (stored : List ℕ) (r : ℕ)
+    → PlanCall s before list after stored r → Refuses before after r
+plan-refuses s before list after stored r h = elim (same-or-not (length list) 3) [
+  | inl long ↦ let t = h .told long in outcome-refuses _ _ (t .answer) (t .returns) (t .done)
+  | inr other ↦ let w = h .wrong-list other in kept-refuses (w .returns) (w .kept)
+]
+
+report-refuses : (i v : ℕ) (before : Lent) (list : List ℕ) (after : Lent) (stored : List ℕ) (r : ℕ)
+    → ReportCall i v before list after stored r
+    → Refuses (before .buffers) (after .buffers) r × (¬ (r ≡ 0) → after .sheet ≡ before .sheet)
+report-refuses i v before list after stored r h = elim (same-or-not (length list) 3) [
+  | inl long ↦
+      let t = h .told long in (
+        outcome-refuses _ _ (t .answer) (t .returns) (t .done .outcome),
+        λ not-zero. elim (fine-or-refused (reportVerdict (before .sheet) i v (before .buffers))) [
+          | inl fine ↦ absurd (not-zero (t .returns ∙ t .done .outcome .number ∙ ap numberIn fine))
+          | inr (q, e) ↦ t .done .kept q e
+        ],
+      )
+  | inr other ↦
+      let w = h .wrong-list other in
+      (kept-refuses (w .returns) (ap (λ (x : Lent). x .buffers) (w .kept)), λ not-zero. ap (λ (x : Lent). x .sheet) (w .kept))
+]
 
 pub promises : Promises
 promises =
@@ -26,4 +56,6 @@ promises =
       write-returns = λ G before list after stored r. call-returns _ (λ a g. g .number);
       plan-returns = λ s before list after stored r. call-returns _ (λ a g. g .number);
       report-returns = λ i v before list after stored r. call-returns _ (λ a g. g .outcome .number);
+      plan-refuses = plan-refuses;
+      report-refuses = report-refuses;
     }

@@ -1,9 +1,10 @@
--- What the four calls from C return and leave: those of read, write, plan and report, each with the list for its answer.
+-- What the calls from C return and leave: those of read, write, plan and report, each with the list for its answer.
 -- Document 01, "Four operations".
 --   ReadCall s before list after stored r          before, after: the four lists
 --   WriteCall G before list after stored r         before, after: the lent bytes
 --   PlanCall s before list after stored r          before, after: cells, decisions and delays
---   Lent                                           a sheet and these three
+--   Lent, lent s b                                 a sheet and these three
+--   ReportLeaves i v before after a                what the report that train i has the source delay v now leaves
 --   ReportCall i v before list after stored r      before, after: sheet, cells, decisions and delays
 -- list and stored are the list for the answer before and after the call, r is what the call returns.
 -- Assumes nothing.
@@ -40,9 +41,8 @@ pub record Lent : Type 0 where
 abbrev pub lent : List ℕ → Buffers → Lent
 lent s b = record { sheet = s; buffers = b }
 
--- the report that train i has the source delay v now
-abbrev pub Reports : ℕ → ℕ → Lent → Lent → Answer → Type 0
-Reports i v before after = Report (before .sheet) i v (before .buffers) (after .sheet) (after .buffers)
+abbrev pub ReportLeaves : ℕ → ℕ → Lent → Lent → Answer → Type 0
+ReportLeaves i v before after = Report (before .sheet) i v (before .buffers) (after .sheet) (after .buffers)
 
 abbrev pub ReportCall : ℕ → ℕ → Lent → List ℕ → Lent → List ℕ → ℕ → Type 0
-ReportCall i v before = Call 3 answerNumber answerNumbers (Reports i v before) before
+ReportCall i v before = Call 3 answerNumber answerNumbers (ReportLeaves i v before) before

@@ -1,13 +1,14 @@
--- What a program in C may rely on, whatever keeps the four contracts: they leave nothing open, and 0 is returned exactly
--- where the operation accepts.
+-- What a program in C may rely on, whatever keeps the four contracts: they leave nothing open; 0 is returned exactly
+-- where the operation accepts; and what a display must not paint is not there, or is what stood there before.
 --   One Leaves                   no two differing results: Leaves after stored r says what a call leaves and returns
 --   Returns n list checks r      r by the length of the list and by the checks
---   Promises                     both, of each call
+--   Refuses before after r       what a plan or a report leaves that returned another number than 0
+--   Promises                     all of it, of each call
 -- Assumes nothing.
 use Prim.Native.Nat.{ℕ}
 use mathlib.Core.Path.{_≡_}
 use mathlib.Core.List.{List}
-use lib.ListN.{length}
+use lib.ListN.{length, replicate}
 use Rattle.rail.specs.declared.Verdict.{Verdict}
 use Rattle.rail.specs.declared.Verdict.the-variants.{Fine}
 use Rattle.rail.specs.Verdict.{numberIn}
@@ -26,9 +27,18 @@ One {X} Leaves = (after after′ : X) (stored stored′ : List ℕ) (r r′ : �
 pub record Returns (n : ℕ) (list : List ℕ) (checks : Verdict) (r : ℕ) : Type 0 where
   -- the number of the first check that fails, 0 where all pass
   pub listed : length list ≡ n → r ≡ numberIn checks
-  pub unlisted : ¬ (length list ≡ n) → r ≡ 10
+  pub wrong-list : ¬ (length list ≡ n) → r ≡ 10
   -- and 0 in no other case
   pub zero : r ≡ 0 → (length list ≡ n) × (checks ≡ Fine)
+
+pub record Refuses (before after : Buffers) (r : ℕ) : Type 0 where
+  -- on 10 the buffers still hold what they held
+  pub ten : r ≡ 10 → after ≡ before
+  -- any other refusal blanks
+  pub decisions : ¬ (r ≡ 0) → ¬ (r ≡ 10) → after .decisions ≡ replicate 64 2
+  pub delays : ¬ (r ≡ 0) → ¬ (r ≡ 10) → after .delays ≡ replicate 64 0
+  -- and none changes a cell
+  pub cells : ¬ (r ≡ 0) → after .cells ≡ before .cells
 
 pub record Promises : Type 0 where
   pub one-read : (s : List ℕ) (before : Lists) (list : List ℕ) → One (ReadCall s before list)
@@ -44,3 +54,8 @@ pub record Promises : Type 0 where
   pub report-returns : (i v : ℕ) (before : Lent) (list : List ℕ) (after : Lent) (stored : List ℕ) (r : ℕ)
       → ReportCall i v before list after stored r
       → Returns 3 list (reportVerdict (before .sheet) i v (before .buffers)) r
+  pub plan-refuses : (s : List ℕ) (before : Buffers) (list : List ℕ) (after : Buffers) (stored : List ℕ) (r : ℕ)
+      → PlanCall s before list after stored r → Refuses before after r
+  pub report-refuses : (i v : ℕ) (before : Lent) (list : List ℕ) (after : Lent) (stored : List ℕ) (r : ℕ)
+      → ReportCall i v before list after stored r
+      → Refuses (before .buffers) (after .buffers) r × (¬ (r ≡ 0) → after .sheet ≡ before .sheet)

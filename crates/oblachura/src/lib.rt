@@ -13,7 +13,7 @@ use crate::telling::READ_ANSWER;
 use crate::telling::tell_answer;
 use crate::telling::tell_reading;
 use crate::telling::tell_writing;
-use crate::telling::unlisted;
+use crate::telling::wrong_list;
 use planner::plan;
 use planner::report;
 use rail::Train;
@@ -38,7 +38,7 @@ pub extern "C" fn oblachura_read(
         (now (answer .exit)) r ⌝ }
 {
     if answer.len() != READ_ANSWER {
-        return unlisted();
+        return wrong_list();
     }
     tell_reading(read(sheet, departures, driving, delays, passengers), answer)
 }
@@ -62,7 +62,7 @@ pub extern "C" fn oblachura_write(
         (now (sheet .exit)) (now (answer .exit)) r ⌝ }
 {
     if answer.len() != ANSWER {
-        return unlisted();
+        return wrong_list();
     }
     tell_writing(
         write(m, period, departures, driving, delays, passengers, sheet),
@@ -85,7 +85,7 @@ pub extern "C" fn oblachura_plan(
         (now (answer .exit)) r ⌝ }
 {
     if answer.len() != ANSWER {
-        return unlisted();
+        return wrong_list();
     }
     tell_answer(plan(sheet, cells, decisions, delays), answer)
 }
@@ -109,7 +109,7 @@ pub extern "C" fn oblachura_report(
         (now (answer .exit)) r ⌝ }
 {
     if answer.len() != ANSWER {
-        return unlisted();
+        return wrong_list();
     }
     tell_answer(
         report(sheet, Train(train), delay, cells, decisions, delays),

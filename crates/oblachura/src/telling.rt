@@ -19,7 +19,7 @@ pub const READ_ANSWER: usize = 4;
 pub const ANSWER: usize = 3;
 
 // What a call returns whose list has another length.
-pub fn unlisted() -> u32
+pub fn wrong_list() -> u32
     ensures { λ r. ⌜ r ≡ numberOf BufferLength ⌝ }
 {
     Refusal::BufferLength.number()

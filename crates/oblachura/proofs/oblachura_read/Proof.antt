@@ -1,15 +1,15 @@
 -- `oblachura_read` meets its contract: it is read, once the list for the answer has its length.
 -- Assumes nothing.
 use borrow.Author.Needs.{needs}
-use Rattle.oblachura.proofs.Call.{call-told, call-unlisted}
+use Rattle.oblachura.proofs.Call.{call-told, call-wrong-list}
 use Rattle.oblachura.proofs.oblachura_read.Statement.{statement}
 use Rattle.oblachura.proofs.oblachura_read.Tie as tie
 
-unlisted-requires : tie.Need-unlisted-requires
-unlisted-requires c κs = search needs
+wrong-list-requires : tie.Need-wrong-list-requires
+wrong-list-requires c κs = search needs
 
 returns : tie.Need-returns
-returns c = call-unlisted (c .before .if1 .taken) (c .unlisted .ensures)
+returns c = call-wrong-list (c .before .if1 .taken) (c .wrong-list .ensures)
 
 read-requires : tie.Need-read-requires
 read-requires c κs = search needs
@@ -36,13 +36,14 @@ returns-2 : tie.Need-returns-2
 returns-2 c =
     let told = c .before .before in
     let done = told .before .before .before .before .before .before .before .before .before .before in
-    call-told (done .before .before .before .before .before .if1 .left) (done .read .result) (done .read .ensures) (told .tell-reading .ensures)
+    let asked = done .before .before .before .before .before in
+    call-told (asked .if1 .left) (done .read .result) (done .read .ensures) (told .tell-reading .ensures)
 
 pub oblachura-read-spec : {M : Type 1} → statement M
 oblachura-read-spec =
     tie.close
     (tie.spec
-    unlisted-requires
+    wrong-list-requires
     returns
     read-requires
     tell-reading-requires

@@ -1,15 +1,15 @@
 -- `oblachura_write` meets its contract: it is write, once the list for the answer has its length.
 -- Assumes nothing.
 use borrow.Author.Needs.{needs}
-use Rattle.oblachura.proofs.Call.{call-told, call-unlisted}
+use Rattle.oblachura.proofs.Call.{call-told, call-wrong-list}
 use Rattle.oblachura.proofs.oblachura_write.Statement.{statement}
 use Rattle.oblachura.proofs.oblachura_write.Tie as tie
 
-unlisted-requires : tie.Need-unlisted-requires
-unlisted-requires c κs = search needs
+wrong-list-requires : tie.Need-wrong-list-requires
+wrong-list-requires c κs = search needs
 
 returns : tie.Need-returns
-returns c = call-unlisted (c .before .if1 .taken) (c .unlisted .ensures)
+returns c = call-wrong-list (c .before .if1 .taken) (c .wrong-list .ensures)
 
 write-requires : tie.Need-write-requires
 write-requires c κs = search needs
@@ -27,13 +27,14 @@ returns-2 : tie.Need-returns-2
 returns-2 c =
     let told = c .before .before in
     let done = told .before .before .before .before in
-    call-told (done .before .before .if1 .left) (done .write .result) (done .write .ensures) (told .tell-writing .ensures)
+    let asked = done .before .before in
+    call-told (asked .if1 .left) (done .write .result) (done .write .ensures) (told .tell-writing .ensures)
 
 pub oblachura-write-spec : {M : Type 1} → statement M
 oblachura-write-spec =
     tie.close
     (tie.spec
-    unlisted-requires
+    wrong-list-requires
     returns
     write-requires
     tell-writing-requires
