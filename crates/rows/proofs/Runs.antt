@@ -17,7 +17,7 @@ use Rattle.line.proofs.Bounds.{arrival-on-le}
 use Rattle.cells.specs.Given.{leavingIn, boardedIn, aboardIn, runningIn, RunningGiven, SumsGiven}
 use Rattle.rows.specs.Steps.{Keeps, Goes}
 use Rattle.cells.proofs.Bounded.{running-in-range}
-use Rattle.lists.proofs.Held.{Held, held-set, nth-set-other}
+use Rattle.lists.proofs.Held.{Held, held-set, nth-set, nth-set-other}
 use Rattle.cells.proofs.Leavers.{boarded-none, boarded-first, boarded-le, boarded-aboard}
 
 -- ---- upward
@@ -40,13 +40,13 @@ module _ (m k : ℕ) (slack source sums : List ℕ) where
     pub excesses : Held excess (excessOn R k) k i
     pub kept : Held keep keeps k i
 
-  pub kept-start : (zeros : List ℕ) → length zeros ≡ 64 → k ≤ m → KeptTo zeros zeros 0 k
-  kept-start zeros long last =
+  pub kept-start : (excess keep : List ℕ) → length excess ≡ 64 → length keep ≡ 64 → k ≤ m → KeptTo excess keep 0 k
+  kept-start excess keep long-excess long-keep last =
       record {
         from = le-refl k;
         most = omega arith;
-        long-excess = long;
-        long-keep = long;
+        long-excess = long-excess;
+        long-keep = long-keep;
         ahead = omega (arith, excess-on-start R k k (le-refl k));
         small = omega arith;
         excesses = λ l a b. absurd (omega arith);
@@ -107,17 +107,15 @@ module _ (m k : ℕ) (period sums : List ℕ) where
     pub from : k ≤ i
     pub most : i ≤ m
     pub long : length go ≡ 64
-    pub first : nth go k ≡ 0
     pub leaves : left ≡ boardedIn m sums k (i + 1)
     pub gone : Held go goes (i + 1) (m + 1)
 
-  pub gone-start : (zeros : List ℕ) → length zeros ≡ 64 → nth zeros k ≡ 0 → k ≤ m → GoneTo zeros 0 m
-  gone-start zeros long none last =
+  pub gone-start : (go : List ℕ) → length go ≡ 64 → k ≤ m → GoneTo go 0 m
+  gone-start go long last =
       record {
         from = last;
         most = le-refl m;
         long = long;
-        first = none;
         leaves = sym (boarded-none m sums k (m + 1) (omega arith));
         gone = λ l a b. absurd (omega arith);
       }
@@ -151,12 +149,18 @@ module _ (m k : ℕ) (period sums : List ℕ) where
           from = omega arith;
           most = omega (arith, G .most);
           long = length-set go at cost ∙ G .long;
-          first = nth-set-other go at i cost here (omega arith) k pos (λ q. omega arith) ∙ G .first;
           leaves = rw back more-is;
           gone = rw back (held-set go at i cost here (omega arith) goes i (m + 1) (omega arith) room cost-is
               (λ l a b n. G .gone l (omega arith) b));
         }
 
-  pub gone-end : (go : List ℕ) (left i : ℕ) → GoneTo go left i → i ≤ k → Goes m k period sums go
-  gone-end go left i G end =
-      record { long = G .long; first = G .first; gone = λ l a b. G .gone l (omega arith) (omega arith) }
+  -- go costs nothing where the run begins
+  pub gone-end : (go : List ℕ) (left i at : ℕ) → GoneTo go left i → i ≤ k → k ≤ m → m ≤ 64 → 1 ≤ k → at ≡ k - 1
+      → Goes m k period sums (set go at 0)
+  gone-end go left i at G end last few pos here =
+      record {
+        long = length-set go at 0 ∙ G .long;
+        first = nth-set go at k 0 here pos (omega (arith, G .long));
+        gone = λ l a b. nth-set-other go at k 0 here pos l (omega arith) (λ e. omega arith)
+            ∙ G .gone l (omega arith) (omega arith);
+      }

@@ -19,21 +19,22 @@ use cells::times::excess_at;
 use cells::times::period_at;
 use rail::Train;
 
-// The excess at each station of a run, and what keep costs there but for the cell after it.
-struct Keeping {
-    excess: [u64; 64],
-    keep: [u64; 64],
-}
-
-// These along the run that begins with `first` on time.
-fn keep_along(first: Train, m: u32, slack: &[u32], source: &[u32], sums: &[u32]) -> Keeping
+// Along the run that begins with `first` on time: the excess at each station, and what keep costs
+// there but for the cell after it.
+fn keep_along(
+    excess: &mut [u64],
+    keep: &mut [u64],
+    first: Train,
+    m: u32,
+    slack: &[u32],
+    source: &[u32],
+    sums: &[u32],
+)
     requires { ⌜ (1 ≤ first .0) × (first .0 ≤ m) × RunningGiven m (now slack) (now source) ×
-        SumsGiven m (now sums) ⌝ }
-    ensures { λ r. ⌜ Keeps m (first .0) (now (slack .entry)) (now (source .entry))
-        (now (sums .entry)) (r .excess) (r .keep) ⌝ }
+        SumsGiven m (now sums) × (length (now excess) ≡ 64) × (length (now keep) ≡ 64) ⌝ }
+    ensures { λ _. ⌜ Keeps m (first .0) (now (slack .entry)) (now (source .entry))
+        (now (sums .entry)) (now (excess .exit)) (now (keep .exit)) ⌝ }
 {
-    let mut excess = [0u64; 64];
-    let mut keep = [0u64; 64];
     let mut late: u64 = 0;
     let mut i = first.0;
     while i <= m {
@@ -45,16 +46,15 @@ fn keep_along(first: Train, m: u32, slack: &[u32], source: &[u32], sums: &[u32])
         keep[k] = cost(leaving(sums, m, first, train), late);
         i += 1;
     }
-    Keeping { excess, keep }
 }
 
-// By station of a run after its first: what go costs there but for the cell on the diagonal.
-fn go_along(first: Train, m: u32, period: &[u32], sums: &[u32], boarding: &[u64]) -> [u64; 64]
+// What go costs there but for the cell on the diagonal; 0 where the run begins.
+fn go_along(go: &mut [u64], first: Train, m: u32, period: &[u32], sums: &[u32], boarding: &[u64])
     requires { ⌜ (1 ≤ first .0) × (first .0 ≤ m) × PeriodGiven m (now period) ×
-        SumsGiven m (now sums) × Boarders m (now sums) (now boarding) ⌝ }
-    ensures { λ r. ⌜ Goes m (first .0) (now (period .entry)) (now (sums .entry)) r ⌝ }
+        SumsGiven m (now sums) × Boarders m (now sums) (now boarding) × (length (now go) ≡ 64) ⌝ }
+    ensures { λ _. ⌜ Goes m (first .0) (now (period .entry)) (now (sums .entry))
+        (now (go .exit)) ⌝ }
 {
-    let mut go = [0u64; 64];
     let mut sum: u64 = 0;
     let mut i = m;
     while first.0 < i {
@@ -64,7 +64,7 @@ fn go_along(first: Train, m: u32, period: &[u32], sums: &[u32], boarding: &[u64]
         go[k] = cost(sum - boarding[k], period_at(period, train.leaves()));
         i -= 1;
     }
-    go
+    go[first.index()] = 0;
 }
 
 // The lesser of the two choices; without an excess only keep is one.
@@ -117,9 +117,13 @@ fn diagonal_after(cells: &[u64], m: u32, last: Train) -> [u64; 64]
     diagonal
 }
 
-// Works one row, lent as a part of the cells of its own, and answers its first cell.
+// Works one row, lent as a part of the cells of its own, and answers its first cell. `excess`,
+// `keep` and `go` are room to work in: what stands in them before does not count.
 fn work_row(
     cells: &mut [u64],
+    excess: &mut [u64],
+    keep: &mut [u64],
+    go: &mut [u64],
     m: u32,
     first: Train,
     slack: &[u32],
@@ -130,19 +134,18 @@ fn work_row(
     diagonal: &[u64],
 ) -> u64
     requires { ⌜ RowGiven m (first .0) (now cells) (now slack) (now source) (now period) (now sums)
-        (now boarding) (now diagonal) ⌝ }
+        (now boarding) (now diagonal) ×
+        (length (now excess) ≡ 64) × (length (now keep) ≡ 64) × (length (now go) ≡ 64) ⌝ }
     ensures { λ r. ⌜ RowWorked
         (bookIn m (now (slack .entry)) (now (source .entry)) (now (period .entry))
         (now (sums .entry)))
         (first .0) (now (diagonal .entry)) (now (cells .entry)) (now (cells .exit)) r ⌝ }
 {
-    let kept = keep_along(first, m, slack, source, sums);
-    let excess = kept.excess;
-    let keep = kept.keep;
-    let go = go_along(first, m, period, sums, boarding);
+    keep_along(excess, keep, first, m, slack, source, sums);
+    go_along(go, first, m, period, sums, boarding);
     let a = place(m, first, first.leaves());
     let b = a + (m + 1 - first.0) as usize;
-    fill_row(&mut cells[a..b], first, &excess, &keep, &go, diagonal);
+    fill_row(&mut cells[a..b], first, excess, keep, go, diagonal);
     cells[a]
 }
 
@@ -165,11 +168,17 @@ pub fn work_rows(
 {
     let boarding = boarders(sums, m);
     let mut diagonal = diagonal_after(cells, m, last);
+    let mut excess = [0u64; 64];
+    let mut keep = [0u64; 64];
+    let mut go = [0u64; 64];
     let mut i = last.0;
     while 0 < i {
         let train = Train(i);
         let cell = work_row(
             cells,
+            &mut excess,
+            &mut keep,
+            &mut go,
             m,
             train,
             slack,

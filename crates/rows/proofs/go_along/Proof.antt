@@ -1,10 +1,10 @@
 -- `go_along` meets its contract. Invariant: the stations after i are done. Measure: i.
 -- Assumes nothing.
 use borrow.Author.Needs.{needs}
-use mathlib.Core.Path.{_≡_, refl, ap, _∙_}
+use mathlib.Core.Path.{_≡_, ap, sym, _∙_}
 use Prim.Native.Nat.{ℕ, _+_, _-_, _≤_}
 use native.Mathlib.Omega.{arith}
-use lib.ListN.{getD, replicate, getD-replicate}
+use lib.ListN.{getD, length-set}
 use Rattle.lists.specs.Run.{nth}
 use Rattle.line.specs.Ranges.{everyone}
 use Rattle.cells.specs.Given.{boardedIn}
@@ -14,19 +14,16 @@ use Rattle.rows.proofs.go_along.Statement.{statement}
 use Rattle.rows.proofs.go_along.Tie as tie
 
 abbrev Inv-loop : tie.InvT-loop
-Inv-loop first m period sums boarding go₀ sum₀ i₀ go sum i = GoneTo m (first .0) period sums go sum i
+Inv-loop go₀ first m period sums boarding sum₀ i₀ go sum i = GoneTo m (first .0) period sums go sum i
 
 abbrev μ-loop : tie.MeasureT-loop
-μ-loop first m period sums boarding go₀ sum₀ i₀ go sum i = i
+μ-loop go₀ first m period sums boarding sum₀ i₀ go sum i = i
 
 -- nobody leaves after the last train
 loop-holds : tie.Need-loop-holds Inv-loop μ-loop
 loop-holds c =
-    let start = c .before .before .before in
-    gone-start _ _ _ _ (replicate 64 0) refl
-    (getD-replicate 64 (start .args .first .0 - 1) 0 0
-    (omega (arith, start .pre .0, start .pre .1, start .pre .3 .trains)))
-    (start .pre .1)
+    let start = c .before .before .before .before .pre in
+    gone-start _ _ _ _ _ (start .5) (start .1)
 
 index-requires : tie.Need-index-requires Inv-loop μ-loop
 index-requires c κs = search needs
@@ -34,24 +31,27 @@ index-requires c κs = search needs
 leaving-requires : tie.Need-leaving-requires Inv-loop μ-loop
 leaving-requires c κs = search needs
 
+abbrev start-of : tie.After-leaving Inv-loop μ-loop → tie.Start Inv-loop μ-loop
+start-of c = c .before .before .before .before .before .before .before .before .before
+
 -- those who board at station i or later, of the train at which the turn stands
 boarding-here : (c : tie.After-leaving Inv-loop μ-loop) →
-    let start = c .before .before .before .before .before .before .before .before .args in
+    let start = start-of c .args in
     let i = c .before .before .before .before .loop .i in
     getD (start .boarding .now) (c .before .index .result) 0 ≡ boardedIn (start .m) (start .sums .now) i i
 boarding-here c =
-    let start = c .before .before .before .before .before .before .before .before in
+    let start = start-of c in
     let at-loop = c .before .before .before .before .loop in
     nth-index (start .args .boarding .now) _ (at-loop .i) (c .before .index .ensures)
     ∙ start .pre .4 .held (at-loop .i) (omega (arith, start .pre .0, at-loop .inv .from)) (at-loop .inv .most)
 
 -- they are among those who are counted, who are no more than everyone
 turn : (c : tie.After-leaving Inv-loop μ-loop) →
-    let start = c .before .before .before .before .before .before .before .before .args in
+    let start = start-of c .args in
     let more = c .before .before .before .before .loop .sum + c .leaving .result in
     (more ≤ everyone) × (getD (start .boarding .now) (c .before .index .result) 0 ≤ more)
 turn c =
-    let start = c .before .before .before .before .before .before .before .before in
+    let start = start-of c in
     let at-loop = c .before .before .before .before .loop in
     let taken = c .before .before .if1 .taken in
     let e = ap (λ (n : ℕ). at-loop .sum + n) (c .leaving .ensures .0) in (
@@ -80,16 +80,16 @@ period-at-requires : tie.Need-period-at-requires Inv-loop μ-loop
 period-at-requires c κs = search needs
 
 minutes : (c : tie.After-period-at Inv-loop μ-loop) →
-    let start = c .before .before .before .before .before .before .before .before .before .before .before .args in
+    let start = start-of (c .before .before .before) .args in
     c .period-at .result ≡ nth (start .period .now) (c .before .before .before .before .before .before .before .loop .i)
 minutes c =
-    let start = c .before .before .before .before .before .before .before .before .before .before .before .args in
+    let start = start-of (c .before .before .before) .args in
     c .period-at .ensures ∙ ap (λ (s : ℕ). nth (start .period .now) s) (c .before .leaves .ensures)
 
 -- few enough, and a period of at most 1,440
 cost-requires : tie.Need-cost-requires Inv-loop μ-loop
 cost-requires c κs =
-    let start = c .before .before .before .before .before .before .before .before .before .before .before .pre in
+    let start = start-of (c .before .before .before) .pre in
     let at-loop = c .before .before .before .before .before .before .before in
     let after = c .before .before .before .before .before .if1 .taken in
     let often = start .2 .most (at-loop .loop .i) (omega (arith, start .0)) (at-loop .loop .inv .most) in
@@ -98,8 +98,8 @@ cost-requires c κs =
 mul-go : tie.Need-mul-go Inv-loop μ-loop
 mul-go c = search needs
 
-array-write-go : tie.Need-array-write-go Inv-loop μ-loop
-array-write-go c = search needs
+slice-write-go : tie.Need-slice-write-go Inv-loop μ-loop
+slice-write-go c = search needs
 
 sub-i : tie.Need-sub-i Inv-loop μ-loop
 sub-i c = search needs
@@ -111,16 +111,35 @@ loop-less c = search needs
 loop-again : tie.Need-loop-again Inv-loop μ-loop
 loop-again c =
     let called = c .before .before .before .before in
-    let start = called .before .before .before .before .before .before .before .before in
+    let start = start-of called in
     let at-loop = called .before .before .before .before .loop in
     gone-next _ _ _ _ (start .pre .3) (start .pre .0) (at-loop .go) (at-loop .sum) (at-loop .i) (at-loop .inv)
     (called .before .before .if1 .taken) _ _
     (ap (λ (n : ℕ). at-loop .sum + n) (called .leaving .ensures .0)) (boarding-here called) _ _ _
     (called .before .index .ensures) (minutes (c .before)) (c .cost .ensures .0)
 
--- no station is left but the first
+index-requires-2 : tie.Need-index-requires-2 Inv-loop μ-loop
+index-requires-2 c κs = search needs
+
+mul-go-2 : tie.Need-mul-go-2 Inv-loop μ-loop
+mul-go-2 c = search needs
+
+slice-write-go-2 : tie.Need-slice-write-go-2 Inv-loop μ-loop
+slice-write-go-2 c = search needs
+
+-- the list keeps its length
+same-length : tie.Need-same-length Inv-loop μ-loop
+same-length c =
+    let at-loop = c .before .before .before .loop in
+    length-set (at-loop .go) (c .index2 .result) 0 ∙ at-loop .inv .long
+    ∙ sym (c .before .before .before .before .before .before .before .before .pre .5)
+
+-- no station is left but the first, where go costs nothing
 returns : tie.Need-returns Inv-loop μ-loop
-returns c = gone-end _ _ _ _ _ _ _ (c .before .before .loop .inv) (omega arith)
+returns c =
+    let start = c .before .before .before .before .before .before .before .before .pre in
+    gone-end _ _ _ _ _ _ _ _ (c .before .before .before .loop .inv) (omega arith) (start .1) (start .3 .trains)
+    (start .0) (c .index2 .ensures)
 
 pub go-along-spec : {M : Type 1} → statement M
 go-along-spec =
@@ -139,8 +158,12 @@ go-along-spec =
     period-at-requires
     cost-requires
     mul-go
-    array-write-go
+    slice-write-go
     sub-i
     loop-less
     loop-again
+    index-requires-2
+    mul-go-2
+    slice-write-go-2
+    same-length
     returns)

@@ -1,10 +1,9 @@
 -- `keep_along` meets its contract. Invariant: the stations before i are done. Measure: the trains left.
 -- Assumes nothing.
 use borrow.Author.Needs.{needs}
-use mathlib.Core.Path.{_≡_, refl, ap, _∙_}
+use mathlib.Core.Path.{_≡_, ap, _∙_}
 use Prim.Native.Nat.{ℕ, _+_, _-_, _*_, _≤_}
 use native.Mathlib.Omega.{arith}
-use lib.ListN.{replicate}
 use Rattle.lists.specs.Run.{nth}
 use Rattle.line.specs.Cells.{arrivalOn}
 use Rattle.line.specs.Ranges.{latest}
@@ -14,15 +13,17 @@ use Rattle.rows.proofs.keep_along.Statement.{statement}
 use Rattle.rows.proofs.keep_along.Tie as tie
 
 abbrev Inv-loop : tie.InvT-loop
-Inv-loop first m slack source sums excess₀ keep₀ late₀ i₀ excess keep late i =
+Inv-loop excess₀ keep₀ first m slack source sums late₀ i₀ excess keep late i =
     KeptTo m (first .0) slack source sums excess keep late i
 
 abbrev μ-loop : tie.MeasureT-loop
-μ-loop first m slack source sums excess₀ keep₀ late₀ i₀ excess keep late i = m + 1 - i
+μ-loop excess₀ keep₀ first m slack source sums late₀ i₀ excess keep late i = m + 1 - i
 
 -- the run begins on time
 loop-holds : tie.Need-loop-holds Inv-loop μ-loop
-loop-holds c = kept-start _ _ _ _ _ (replicate 64 0) refl (c .before .before .before .pre .1)
+loop-holds c =
+    let start = c .before .before .before .before .before .pre in
+    kept-start _ _ _ _ _ _ _ (start .4) (start .5) (start .1)
 
 leaves-requires : tie.Need-leaves-requires Inv-loop μ-loop
 leaves-requires c κs = search needs
@@ -31,18 +32,18 @@ excess-at-requires : tie.Need-excess-at-requires Inv-loop μ-loop
 excess-at-requires c κs = search needs
 
 excess-here : (c : tie.After-excess-at Inv-loop μ-loop) →
-    let start = c .before .before .before .before .before .before .before .args in
+    let start = c .before .before .before .before .before .before .before .before .before .args in
     let at-loop = c .before .before .before .loop in
     c .excess-at .result ≡ at-loop .late - nth (start .slack .now) (at-loop .i)
 excess-here c =
-    let start = c .before .before .before .before .before .before .before .args in
+    let start = c .before .before .before .before .before .before .before .before .before .args in
     let at-loop = c .before .before .before .loop in
     c .excess-at .ensures ∙ ap (λ (s : ℕ). at-loop .late - nth (start .slack .now) s) (c .before .leaves .ensures)
 
 -- an excess is no later than a train
 arrives-requires : tie.Need-arrives-requires Inv-loop μ-loop
 arrives-requires c κs =
-    let start = c .before .before .before .before .before .before .before .pre in
+    let start = c .before .before .before .before .before .before .before .before .before .pre in
     let at-loop = c .before .before .before .loop in
     let S = at-loop .inv in
     let taken = c .before .before .loop-test .taken in
@@ -54,12 +55,12 @@ arrives-requires c κs =
     )
 
 arrived : (c : tie.After-arrives Inv-loop μ-loop) →
-    let start = c .before .before .before .before .before .before .before .before .args in
+    let start = c .before .before .before .before .before .before .before .before .before .before .args in
     let at-loop = c .before .before .before .before .loop in
     (c .arrives .result ≡ arrivalOn (runningIn (start .slack .now) (start .source .now)) (start .first .0) (at-loop .i))
     × (c .arrives .result ≤ latest)
 arrived c =
-    let start = c .before .before .before .before .before .before .before .before in
+    let start = c .before .before .before .before .before .before .before .before .before .before in
     let at-loop = c .before .before .before .before .loop in
     let taken = c .before .before .before .loop-test .taken in
     let e = excess-here (c .before) in (
@@ -73,8 +74,8 @@ index-requires c κs = search needs
 mul-excess : tie.Need-mul-excess Inv-loop μ-loop
 mul-excess c = search needs
 
-array-write-excess : tie.Need-array-write-excess Inv-loop μ-loop
-array-write-excess c = search needs
+slice-write-excess : tie.Need-slice-write-excess Inv-loop μ-loop
+slice-write-excess c = search needs
 
 leaving-requires : tie.Need-leaving-requires Inv-loop μ-loop
 leaving-requires c κs = search needs
@@ -86,8 +87,8 @@ cost-requires c κs = (c .leaving .ensures .1, arrived (c .before .before) .1)
 mul-keep : tie.Need-mul-keep Inv-loop μ-loop
 mul-keep c = search needs
 
-array-write-keep : tie.Need-array-write-keep Inv-loop μ-loop
-array-write-keep c = search needs
+slice-write-keep : tie.Need-slice-write-keep Inv-loop μ-loop
+slice-write-keep c = search needs
 
 add-i : tie.Need-add-i Inv-loop μ-loop
 add-i c = search needs
@@ -99,12 +100,18 @@ loop-less c = search needs
 loop-again : tie.Need-loop-again Inv-loop μ-loop
 loop-again c =
     let turn = c .before .before .before in
-    let start = turn .before .before .before .before .before .before .before .before in
+    let start = turn .before .before .before .before .before .before .before .before .before .before in
     let at-loop = turn .before .before .before .before .loop in
     kept-next _ _ _ _ _ (start .pre .2) (start .pre .0) _ _ _ _ (at-loop .inv)
     (turn .before .before .before .loop-test .taken) _ _ (excess-here (turn .before)) (turn .arrives .ensures) _ _
     (c .before .before .index .ensures)
     (c .cost .ensures .0 ∙ ap (λ (n : ℕ). n * turn .arrives .result) (c .before .leaving .ensures .0))
+
+same-length : tie.Need-same-length Inv-loop μ-loop
+same-length c = search needs
+
+same-length-2 : tie.Need-same-length-2 Inv-loop μ-loop
+same-length-2 c = search needs
 
 -- no station is left
 returns : tie.Need-returns Inv-loop μ-loop
@@ -122,12 +129,14 @@ keep-along-spec =
     arrives-requires
     index-requires
     mul-excess
-    array-write-excess
+    slice-write-excess
     leaving-requires
     cost-requires
     mul-keep
-    array-write-keep
+    slice-write-keep
     add-i
     loop-less
     loop-again
+    same-length
+    same-length-2
     returns)

@@ -1,19 +1,21 @@
 -- `work_rows` meets its contract. Invariant: the rows after i are worked. Measure: i.
 -- Assumes nothing.
 use borrow.Author.Needs.{needs}
-use mathlib.Core.Path.{_∙_}
+use mathlib.Core.Path.{_≡_, refl, _∙_}
 use native.Mathlib.Omega.{arith}
+use lib.ListN.{length}
 use Rattle.cells.specs.Given.{bookIn}
 use Rattle.rows.proofs.Working.{WorkedTo, worked-start, worked-back, worked-end}
 use Rattle.rows.proofs.work_rows.Statement.{statement}
 use Rattle.rows.proofs.work_rows.Tie as tie
 
 abbrev Inv-loop : tie.InvT-loop
-Inv-loop cells₀ m slack source period sums boarding diagonal₀ i₀ cells diagonal i =
+Inv-loop cells₀ m slack source period sums boarding diagonal₀ excess₀ keep₀ go₀ i₀ cells diagonal excess keep go i =
     WorkedTo (bookIn m slack source period sums) i₀ cells₀ cells diagonal i
+    × (length excess ≡ 64) × (length keep ≡ 64) × (length go ≡ 64)
 
 abbrev μ-loop : tie.MeasureT-loop
-μ-loop cells₀ m slack source period sums boarding diagonal₀ i₀ cells diagonal i = i
+μ-loop cells₀ m slack source period sums boarding diagonal₀ excess₀ keep₀ go₀ i₀ cells diagonal excess keep go i = i
 
 boarders-requires : tie.Need-boarders-requires Inv-loop μ-loop
 boarders-requires c κs = search needs
@@ -25,7 +27,7 @@ diagonal-after-requires c κs = search needs
 loop-holds : tie.Need-loop-holds Inv-loop μ-loop
 loop-holds c =
     let start = c .before .before .before .before .before .before .before .before in
-    worked-start _ _ _ _ (c .diagonal-after .ensures) (start .pre .later)
+    (worked-start _ _ _ _ (c .diagonal-after .ensures) (start .pre .later), refl, refl, refl)
 
 slice-aggregate-work-row : tie.Need-slice-aggregate-work-row Inv-loop μ-loop
 slice-aggregate-work-row c = search needs
@@ -33,21 +35,34 @@ slice-aggregate-work-row c = search needs
 slice-aggregate-work-row-2 : tie.Need-slice-aggregate-work-row-2 Inv-loop μ-loop
 slice-aggregate-work-row-2 c = search needs
 
+slice-aggregate-work-row-3 : tie.Need-slice-aggregate-work-row-3 Inv-loop μ-loop
+slice-aggregate-work-row-3 c = search needs
+
+slice-aggregate-work-row-4 : tie.Need-slice-aggregate-work-row-4 Inv-loop μ-loop
+slice-aggregate-work-row-4 c = search needs
+
+slice-aggregate-work-row-5 : tie.Need-slice-aggregate-work-row-5 Inv-loop μ-loop
+slice-aggregate-work-row-5 c = search needs
+
 -- what the rows are worked from serves each row
 work-row-requires : tie.Need-work-row-requires Inv-loop μ-loop
 work-row-requires c κs =
-    let at-loop = c .before .before .before .before in
+    let at-loop = c .before .before .before .before .before .before .before in
     let start = at-loop .before .before .before .before .before .before .before .before .before in
-    let W = at-loop .loop .inv in
-    record {
-      given = start .pre .given;
-      first = c .before .before .before .loop-test .taken;
-      last = omega (arith, W .most, start .pre .last);
-      long = W .long ∙ start .pre .long;
-      boarders = at-loop .before .before .before .boarders .ensures;
-      long-diagonal = W .long-diagonal;
-      most = W .small;
-    }
+    let I = at-loop .loop .inv in (
+      record {
+        given = start .pre .given;
+        first = c .before .before .before .before .before .before .loop-test .taken;
+        last = omega (arith, I .0 .most, start .pre .last);
+        long = I .0 .long ∙ start .pre .long;
+        boarders = at-loop .before .before .before .boarders .ensures;
+        long-diagonal = I .0 .long-diagonal;
+        most = I .0 .small;
+      },
+      I .1,
+      I .2,
+      I .3,
+    )
 
 index-requires : tie.Need-index-requires Inv-loop μ-loop
 index-requires c κs = search needs
@@ -55,8 +70,21 @@ index-requires c κs = search needs
 mul-diagonal : tie.Need-mul-diagonal Inv-loop μ-loop
 mul-diagonal c = search needs
 
+abbrev called-of : tie.After-index Inv-loop μ-loop → tie.After-work-row Inv-loop μ-loop
+called-of c = c .before .before .before .before .before .before
+
+abbrev turn-of : tie.After-work-row Inv-loop μ-loop → tie.In-loop Inv-loop μ-loop
+turn-of called = called .before .before .before .before .before .before .before
+
+abbrev start-of : tie.In-loop Inv-loop μ-loop → tie.Start Inv-loop μ-loop
+start-of turn = turn .before .before .before .before .before .before .before .before .before .before
+
+-- a train of the line has its place on the diagonal
 array-write-diagonal : tie.Need-array-write-diagonal Inv-loop μ-loop
-array-write-diagonal c = search needs
+array-write-diagonal c =
+    let turn = turn-of (called-of c) in
+    let start = start-of turn .pre in
+    omega (arith, c .index .ensures, turn .before .loop .inv .0 .most, start .last, start .given .run .trains)
 
 sub-i : tie.Need-sub-i Inv-loop μ-loop
 sub-i c = search needs
@@ -67,19 +95,25 @@ loop-less c = search needs
 -- one row more
 loop-again : tie.Need-loop-again Inv-loop μ-loop
 loop-again c =
-    let called = c .before .before .before in
-    let turn = called .before .before .before .before in
-    let start = turn .before .before .before .before .before .before .before .before .before .before in
-    worked-back _ _ _ _ _ _ _ _ (turn .before .loop .inv) (start .pre .given .run .trains) (turn .loop-test .taken)
-    (start .pre .last) (called .work-row .ensures) _ (c .index .ensures)
+    let called = called-of c in
+    let turn = turn-of called in
+    let start = start-of turn in
+    let I = turn .before .loop .inv in
+    let kept = called .work-row .kept .1 in (
+      worked-back _ _ _ _ _ _ _ _ (I .0) (start .pre .given .run .trains) (turn .loop-test .taken)
+          (start .pre .last) (called .work-row .ensures) _ (c .index .ensures),
+      kept .0 ∙ I .1,
+      kept .1 .0 ∙ I .2,
+      kept .1 .1 .0 ∙ I .3,
+    )
 
 -- the cells keep their length
 same-length : tie.Need-same-length Inv-loop μ-loop
-same-length c = c .before .loop .inv .long
+same-length c = c .before .loop .inv .0 .long
 
 -- no row is left
 returns : tie.Need-returns Inv-loop μ-loop
-returns c = worked-end _ _ _ _ _ _ (c .before .loop .inv) (omega arith)
+returns c = worked-end _ _ _ _ _ _ (c .before .loop .inv .0) (omega arith)
 
 pub work-rows-spec : {M : Type 1} → statement M
 work-rows-spec =
@@ -92,6 +126,9 @@ work-rows-spec =
     loop-holds
     slice-aggregate-work-row
     slice-aggregate-work-row-2
+    slice-aggregate-work-row-3
+    slice-aggregate-work-row-4
+    slice-aggregate-work-row-5
     work-row-requires
     index-requires
     mul-diagonal
