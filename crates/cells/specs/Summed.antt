@@ -2,7 +2,7 @@
 -- at l + 1, in place (k, l) of the square.
 --   pairIn m passengers i j         those who board at i and leave at j
 --   Fields                          the fields of a line, each at most 10,000
---   SumAt, ColumnSummed, Summed     one place, one column and the whole square hold their sums
+--   SumAt, ColumnSummed, Summed     one place, one column and all columns hold their sums, down to their own row
 --   Boarders m sums boarding        by train l, those who board at l or later and leave
 -- Assumes nothing.
 use Prim.Native.Nat.{ℕ, _+_, _≤_, _<_}
@@ -29,18 +29,16 @@ pub record Fields (m : ℕ) (passengers : List ℕ) : Type 0 where
 abbrev pub SumAt : ℕ → List ℕ → List ℕ → ℕ → ℕ → Type 0
 SumAt m passengers sums k l = leavingIn sums k l ≡ sum (λ i. pairIn m passengers i (l + 1)) from k to l
 
--- the column of train l is summed down to its own row, every other place is as it was
+-- the column of train l is summed down to its own row, every other column is as it was
 pub record ColumnSummed (m : ℕ) (passengers : List ℕ) (l : ℕ) (before after : List ℕ) : Type 0 where
   pub long : length after ≡ length before
   pub summed : (k : ℕ) → 1 ≤ k → k ≤ l → SumAt m passengers after k l
-  pub below : (k : ℕ) → l < k → leavingIn after k l ≡ leavingIn before k l
   pub others : (k t : ℕ) → 1 ≤ t → t ≤ 64 → ¬ (t ≡ l) → leavingIn after k t ≡ leavingIn before k t
 
+-- every column is; what stands below or past them does not count
 pub record Summed (m : ℕ) (passengers sums : List ℕ) : Type 0 where
   pub long : length sums ≡ 4096
   pub summed : (k l : ℕ) → 1 ≤ k → k ≤ l → l ≤ m → SumAt m passengers sums k l
-  pub below : (k l : ℕ) → 1 ≤ l → l < k → l ≤ m → leavingIn sums k l ≡ 0
-  pub past : (k l : ℕ) → m < l → l ≤ 64 → leavingIn sums k l ≡ 0
 
 -- by train l, those who board at l or later and leave; the rest 0
 pub record Boarders (m : ℕ) (sums boarding : List ℕ) : Type 0 where

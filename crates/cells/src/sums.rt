@@ -41,18 +41,16 @@ fn sum_column(sums: &mut [u32], passengers: &[u32], m: u32, train: Train)
     }
 }
 
-// The sums of a line; the rest 0.
-pub fn sums_of(passengers: &[u32], m: u32) -> [u32; 4096]
-    requires { ⌜ Fields m (now passengers) ⌝ }
-    ensures { λ r. ⌜ Summed m (now (passengers .entry)) r ⌝ }
+// The columns of all trains.
+pub fn sum_columns(sums: &mut [u32], passengers: &[u32], m: u32)
+    requires { ⌜ Fields m (now passengers) × (length (now sums) ≡ 4096) ⌝ }
+    ensures { λ _. ⌜ Summed m (now (passengers .entry)) (now (sums .exit)) ⌝ }
 {
-    let mut sums = [0u32; 4096];
     let mut i = 1;
     while i <= m {
-        sum_column(&mut sums, passengers, m, Train(i));
+        sum_column(sums, passengers, m, Train(i));
         i += 1;
     }
-    sums
 }
 
 // Those who board at `first` or later and leave `train`.

@@ -12,7 +12,7 @@ ghost use Rattle.settle.specs.Buffers.{buffers};
 ghost use Rattle.settle.specs.Settled.{Settled};
 ghost use Rattle.settle.specs.Steps.{Workable, Sound, SlackGiven, Slacks};
 use cells::place::cell_at;
-use cells::sums::sums_of;
+use cells::sums::sum_columns;
 use decoder::Columns;
 use lists::copy_u8;
 use lists::copy_u32;
@@ -106,7 +106,8 @@ pub fn settle_numbers(
     let passengers = columns.passengers;
     let slack = slacks(m, &departures, &driving);
     let periods = [period; 64];
-    let sums = sums_of(&passengers, m);
+    let mut sums = [0u32; 4096];
+    sum_columns(&mut sums, &passengers, m);
     settle(
         m,
         last,

@@ -1,6 +1,7 @@
 -- `settle_numbers` meets its contract: the lists hold the line of the numbers.
 -- Assumes nothing.
 use borrow.Author.Needs.{needs}
+use mathlib.Core.Path.{refl}
 use Rattle.settle.proofs.Joining.{slack-given, fields-given, lists-given, lists-alike}
 use Rattle.settle.proofs.Settles.{settled-alike}
 use Rattle.settle.proofs.settle_numbers.Statement.{statement}
@@ -18,17 +19,18 @@ slacks-requires c κs =
     let start = c .before .before .before .before .before .before .before .before .before in
     (start .pre .1 .range .trains-most, slack-given _ _ _ (start .pre .1))
 
-slice-aggregate-sums-of : tie.Need-slice-aggregate-sums-of
-slice-aggregate-sums-of c = search needs
+slice-aggregate-sum-columns : tie.Need-slice-aggregate-sum-columns
+slice-aggregate-sum-columns c = search needs
 
-abbrev start-of : tie.After-sums-of → tie.Start
-start-of c = c .before .before .before .before .before .before .before .before .before .before .before .before
+slice-aggregate-sum-columns-2 : tie.Need-slice-aggregate-sum-columns-2
+slice-aggregate-sum-columns-2 c = search needs
+
+abbrev start-of : tie.After-slacks → tie.Start
+start-of c = c .before .before .before .before .before .before .before .before .before .before
 
 -- the fields are those of a line in range
-sums-of-requires : tie.Need-sums-of-requires
-sums-of-requires c κs =
-    let start = c .before .before .before .before .before .before .before .before .before .before .before in
-    fields-given _ _ _ (start .pre .1)
+sum-columns-requires : tie.Need-sum-columns-requires
+sum-columns-requires c κs = (fields-given _ _ _ (start-of (c .before .before) .pre .1), refl)
 
 slice-aggregate-settle : tie.Need-slice-aggregate-settle
 slice-aggregate-settle c = search needs
@@ -45,10 +47,10 @@ slice-aggregate-settle-4 c = search needs
 -- so are the lists
 settle-requires : tie.Need-settle-requires
 settle-requires c κs =
-    let summed = c .before .before .before .before .before .before .before in
-    let start = start-of summed in
-    let slacks = summed .before .before .slacks .ensures in
-    (start .pre .0, lists-given _ _ _ (start .pre .1) _ (summed .sums-of .ensures) _ slacks)
+    let summed = c .before .before .before .before .before .before .before .before in
+    let slacked = summed .before .before .before in
+    let start = start-of slacked .pre in
+    (start .0, lists-given _ _ _ (start .1) _ (summed .sum-columns .ensures) _ (slacked .slacks .ensures))
 
 same-length : tie.Need-same-length
 same-length c = search needs
@@ -63,10 +65,10 @@ same-length-3 c = search needs
 returns : tie.Need-returns
 returns c =
     let settled = c .before .before .before .before .before .before in
-    let summed = settled .before .before .before .before .before .before .before .before in
-    let slacks = summed .before .before .slacks .ensures in
+    let summed = settled .before .before .before .before .before .before .before .before .before in
+    let slacked = summed .before .before .before in
     settled-alike _ _ _ _ _ _
-    (lists-alike _ _ _ (start-of summed .pre .1) _ (summed .sums-of .ensures) _ slacks)
+    (lists-alike _ _ _ (start-of slacked .pre .1) _ (summed .sum-columns .ensures) _ (slacked .slacks .ensures))
     (settled .settle .ensures)
 
 pub settle-numbers-spec : {M : Type 1} → statement M
@@ -76,8 +78,9 @@ settle-numbers-spec =
     slice-aggregate-slacks
     slice-aggregate-slacks-2
     slacks-requires
-    slice-aggregate-sums-of
-    sums-of-requires
+    slice-aggregate-sum-columns
+    slice-aggregate-sum-columns-2
+    sum-columns-requires
     slice-aggregate-settle
     slice-aggregate-settle-2
     slice-aggregate-settle-3
