@@ -77,19 +77,10 @@ pub fn put_delay(sheet: &mut [u8], train: Train, delay: u32)
 }
 
 // The columns with the train's source delay replaced.
-pub fn with_delay(columns: Columns, train: Train, delay: u32) -> Columns
+pub fn with_delay(mut columns: Columns, train: Train, delay: u32) -> Columns
     requires { ⌜ (1 ≤ train .0) × (train .0 ≤ 64) ⌝ }
     ensures { λ r. ⌜ r ≡ withDelayIn columns (train .0) delay ⌝ }
 {
-    let departures = columns.departures;
-    let driving = columns.driving;
-    let mut delays = columns.delays;
-    let passengers = columns.passengers;
-    delays[train.index()] = delay;
-    Columns {
-        departures,
-        driving,
-        delays,
-        passengers,
-    }
+    columns.delays[train.index()] = delay;
+    columns
 }

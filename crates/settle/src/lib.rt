@@ -34,7 +34,7 @@ fn slack(train: Train, departures: &[u32], driving: &[u32]) -> u32
 }
 
 // The slack by station, from 2; entry 1 is 0, since train 1 has no feeder.
-fn slacks(m: u32, departures: &[u32], driving: &[u32]) -> [u32; 64]
+fn slacks<'a>(m: u32, departures: &'a [u32], driving: &'a [u32]) -> [u32; 64]
     requires { ⌜ (m ≤ 64) × ((i : ℕ) → 2 ≤ i → i ≤ m → SlackGiven i (now departures) (now driving))
         ⌝ }
     ensures { λ r. ⌜ Slacks m (now (departures .entry)) (now (driving .entry)) r ⌝ }
@@ -100,14 +100,10 @@ pub fn settle_numbers(
         (buffers (now (cells .exit)) (now (decisions .exit)) (now (delays .exit)))
         r ⌝ }
 {
-    let departures = columns.departures;
-    let driving = columns.driving;
-    let source = columns.delays;
-    let passengers = columns.passengers;
-    let slack = slacks(m, &departures, &driving);
+    let slack = slacks(m, &columns.departures, &columns.driving);
     let periods = [period; 64];
     let mut sums = [0u32; 4096];
-    sum_columns(&mut sums, &passengers, m);
+    sum_columns(&mut sums, &columns.passengers, m);
     settle(
         m,
         last,
@@ -115,7 +111,7 @@ pub fn settle_numbers(
         decisions,
         delays,
         &slack,
-        &source,
+        &columns.delays,
         &periods,
         &sums,
     )

@@ -8,14 +8,14 @@ use Rattle.amend.proofs.with_delay.Tie as tie
 index-requires : tie.Need-index-requires
 index-requires c κs = search needs
 
-mul-delays : tie.Need-mul-delays
-mul-delays c = search needs
+mul-columns : tie.Need-mul-columns
+mul-columns c = search needs
 
-array-write-delays : tie.Need-array-write-delays
-array-write-delays c = search needs
+element-write-columns : tie.Need-element-write-columns
+element-write-columns c = search needs
 
 returns : tie.Need-returns
 returns c = rw (c .index .ensures) refl
 
 pub with-delay-spec : {M : Type 1} → statement M
-with-delay-spec = tie.close (tie.spec index-requires mul-delays array-write-delays returns)
+with-delay-spec = tie.close (tie.spec index-requires mul-columns element-write-columns returns)
