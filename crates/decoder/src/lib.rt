@@ -181,11 +181,13 @@ fn check_body(sheet: &[u8], m: u32, columns: Columns) -> Verdict
     requires { ⌜ Head (now sheet) m × (columns ≡ columnsOf (now sheet)) ⌝ }
     ensures { λ r. ⌜ r ≡ bodyVerdict (now (sheet .entry)) ⌝ }
 {
-    let departures = columns.departures;
-    let driving = columns.driving;
-    let delays = columns.delays;
-    let passengers = columns.passengers;
-    let numbers = check_numbers(m, &departures, &driving, &delays, &passengers);
+    let numbers = check_numbers(
+        m,
+        &columns.departures,
+        &columns.driving,
+        &columns.delays,
+        &columns.passengers,
+    );
     if let Verdict::Refused(_) = numbers {
         return numbers;
     }

@@ -26,14 +26,10 @@ fn store(
         (now (delays .exit)) (now (passengers .exit)))
         ⌝ }
 {
-    let from = columns.departures;
-    copy_u32(departures, &from);
-    let from = columns.driving;
-    copy_u32(driving, &from);
-    let from = columns.delays;
-    copy_u32(delays, &from);
-    let from = columns.passengers;
-    copy_u32(passengers, &from);
+    copy_u32(departures, &columns.departures);
+    copy_u32(driving, &columns.driving);
+    copy_u32(delays, &columns.delays);
+    copy_u32(passengers, &columns.passengers);
 }
 
 // Reads a sheet into the lent lists.

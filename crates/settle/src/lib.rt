@@ -33,7 +33,8 @@ fn slack(train: Train, departures: &[u32], driving: &[u32]) -> u32
     departures[k] - departures[feeder] - driving[feeder]
 }
 
-// The slack by station, from 2; entry 1 is 0, since train 1 has no feeder.
+// The slack by station, from 2; entry 1 is 0, since train 1 has no feeder. The lists may be fields
+// of one value.
 fn slacks<'a>(m: u32, departures: &'a [u32], driving: &'a [u32]) -> [u32; 64]
     requires { ⌜ (m ≤ 64) × ((i : ℕ) → 2 ≤ i → i ≤ m → SlackGiven i (now departures) (now driving))
         ⌝ }

@@ -11,21 +11,9 @@ use Rattle.decoder.proofs.Held.{columns-room, columns-same}
 use Rattle.decoder.proofs.check_body.Statement.{statement}
 use Rattle.decoder.proofs.check_body.Tie as tie
 
-slice-aggregate-check-numbers : tie.Need-slice-aggregate-check-numbers
-slice-aggregate-check-numbers c = search needs
-
-slice-aggregate-check-numbers-2 : tie.Need-slice-aggregate-check-numbers-2
-slice-aggregate-check-numbers-2 c = search needs
-
-slice-aggregate-check-numbers-3 : tie.Need-slice-aggregate-check-numbers-3
-slice-aggregate-check-numbers-3 c = search needs
-
-slice-aggregate-check-numbers-4 : tie.Need-slice-aggregate-check-numbers-4
-slice-aggregate-check-numbers-4 c = search needs
-
 check-numbers-requires : tie.Need-check-numbers-requires
 check-numbers-requires c κs =
-    let start = c .before .before .before .before .before .before .before .before .before in
+    let start = c .before .before .before .before .before .before .before .before .before .before in
     columns-room _ _ (start .pre .0) _ (start .pre .1)
 
 enum-told : tie.Need-enum-told
@@ -33,10 +21,10 @@ enum-told c = search needs
 
 -- the verdict of the columns is that of the sheet's numbers
 numbers : (c : tie.After-check-numbers) →
-    let s = c .before .before .before .before .before .before .before .before .before .before .args .sheet .now in
+    let s = c .before .before .before .before .before .before .before .before .before .before .before .args .sheet .now in
     c .check-numbers .result ≡ numbersVerdict (trainsOf s) (timesOf s) (passengersOf s)
 numbers c =
-    let start = c .before .before .before .before .before .before .before .before .before .before in
+    let start = c .before .before .before .before .before .before .before .before .before .before .before in
     c .check-numbers .ensures ∙ verdict-same _ _ (columns-same _ _ (start .pre .0) _ (start .pre .1))
 
 returns : tie.Need-returns
@@ -59,10 +47,6 @@ pub check-body-spec : {M : Type 1} → statement M
 check-body-spec =
     tie.close
     (tie.spec
-    slice-aggregate-check-numbers
-    slice-aggregate-check-numbers-2
-    slice-aggregate-check-numbers-3
-    slice-aggregate-check-numbers-4
     check-numbers-requires
     enum-told
     returns
