@@ -4,10 +4,12 @@
 ghost use mathlib.Core.Path.{_≡_};
 ghost use Prim.Native.Nat.{_-_};
 ghost use lib.ListN.{length};
-ghost use Rattle.lists.specs.Run.{padded};
+ghost use Rattle.lists.specs.Run.{nth, padded};
 ghost use Rattle.lists.specs.Filled.{Filled};
 ghost use Rattle.sheet.specs.Format.{trainsOf, periodOf, entry};
+ghost use Rattle.sheet.specs.Numbers.{lists, timesIn};
 ghost use Rattle.sheet.specs.Checks.{headVerdict, fillingVerdict, bodyVerdict, sheetVerdict};
+ghost use Rattle.sheet.specs.Checks.{Room, numbersVerdict};
 ghost use Rattle.decoder.specs.Answers.{readNumber, readPlace, readTrains, readPeriod};
 ghost use Rattle.decoder.specs.Answers.{readingOf};
 ghost use Rattle.decoder.specs.Decode.{ColumnRoom, Head, columnsOf, noColumns, Decoding};
@@ -176,12 +178,28 @@ fn check_filling(sheet: &[u8], m: usize) -> Verdict
     Verdict::Fine
 }
 
+// The numbers in four lists, which may be fields of one value.
+fn check_lists<'a>(
+    m: u32,
+    departures: &'a [u32],
+    driving: &'a [u32],
+    delays: &'a [u32],
+    passengers: &'a [u32],
+) -> Verdict
+    requires { ⌜ Room m (lists (now departures) (now driving) (now delays) (now passengers)) ⌝ }
+    ensures { λ r. ⌜ r ≡ numbersVerdict m
+        (timesIn (now (departures .entry)) (now (driving .entry)) (now (delays .entry)))
+        (nth (now (passengers .entry))) ⌝ }
+{
+    check_numbers(m, departures, driving, delays, passengers)
+}
+
 // The numbers of the sheet, then its filling bits.
 fn check_body(sheet: &[u8], m: u32, columns: Columns) -> Verdict
     requires { ⌜ Head (now sheet) m × (columns ≡ columnsOf (now sheet)) ⌝ }
     ensures { λ r. ⌜ r ≡ bodyVerdict (now (sheet .entry)) ⌝ }
 {
-    let numbers = check_numbers(
+    let numbers = check_lists(
         m,
         &columns.departures,
         &columns.driving,

@@ -134,13 +134,13 @@ fn check_passengers(n: usize, passengers: &[u32]) -> Verdict
     Verdict::Fine
 }
 
-// All trains, then all passenger fields. The lists may be fields of one value.
-pub fn check_numbers<'a>(
+// All trains, then all passenger fields.
+pub fn check_numbers(
     m: u32,
-    departures: &'a [u32],
-    driving: &'a [u32],
-    delays: &'a [u32],
-    passengers: &'a [u32],
+    departures: &[u32],
+    driving: &[u32],
+    delays: &[u32],
+    passengers: &[u32],
 ) -> Verdict
     requires { ⌜ Room m (lists (now departures) (now driving) (now delays) (now passengers)) ⌝ }
     ensures { λ r. ⌜ r ≡ numbersVerdict m

@@ -11,8 +11,8 @@ use Rattle.decoder.proofs.Held.{columns-room, columns-same}
 use Rattle.decoder.proofs.check_body.Statement.{statement}
 use Rattle.decoder.proofs.check_body.Tie as tie
 
-check-numbers-requires : tie.Need-check-numbers-requires
-check-numbers-requires c κs =
+check-lists-requires : tie.Need-check-lists-requires
+check-lists-requires c κs =
     let start = c .before .before .before .before .before .before .before .before .before .before in
     columns-room _ _ (start .pre .0) _ (start .pre .1)
 
@@ -20,12 +20,12 @@ enum-told : tie.Need-enum-told
 enum-told c = search needs
 
 -- the verdict of the columns is that of the sheet's numbers
-numbers : (c : tie.After-check-numbers) →
+numbers : (c : tie.After-check-lists) →
     let s = c .before .before .before .before .before .before .before .before .before .before .before .args .sheet .now in
-    c .check-numbers .result ≡ numbersVerdict (trainsOf s) (timesOf s) (passengersOf s)
+    c .check-lists .result ≡ numbersVerdict (trainsOf s) (timesOf s) (passengersOf s)
 numbers c =
     let start = c .before .before .before .before .before .before .before .before .before .before .before in
-    c .check-numbers .ensures ∙ verdict-same _ _ (columns-same _ _ (start .pre .0) _ (start .pre .1))
+    c .check-lists .ensures ∙ verdict-same _ _ (columns-same _ _ (start .pre .0) _ (start .pre .1))
 
 returns : tie.Need-returns
 unfolding bodyVerdict
@@ -47,7 +47,7 @@ pub check-body-spec : {M : Type 1} → statement M
 check-body-spec =
     tie.close
     (tie.spec
-    check-numbers-requires
+    check-lists-requires
     enum-told
     returns
     enum-told-2
