@@ -21,6 +21,7 @@ pub record ColumnTo (m : ℕ) (passengers : List ℕ) (l : ℕ) (before sums : L
   pub here : n ≡ over (k + 1) (l + 1) (λ i. pairIn m passengers i (l + 1))
   pub small : n ≤ (l - k) * 10000
   pub summed : (i : ℕ) → k < i → i ≤ l → SumAt m passengers sums i l
+  pub below : (i : ℕ) → l < i → leavingIn sums i l ≡ leavingIn before i l
   pub others : (i t : ℕ) → 1 ≤ t → t ≤ 64 → ¬ (t ≡ l) → leavingIn sums i t ≡ leavingIn before i t
 
 -- place (k, l) is stored: it holds the number, and other columns and rows are as they were
@@ -49,6 +50,7 @@ module _ (m : ℕ) (passengers : List ℕ) (l : ℕ) (before : List ℕ) where
         here = sym (over-none (l + 1) (l + 1) pairs (le-refl _));
         small = omega arith;
         summed = λ i a b. absurd (omega arith);
+        below = λ i a. refl;
         others = λ i t a b n. refl;
       }
 
@@ -74,6 +76,9 @@ module _ (m : ℕ) (passengers : List ℕ) (l : ℕ) (before : List ℕ) where
           here = rw back next-sum;
           small = omega (arith, C .small, C .most);
           summed = next-at;
+          below = λ i a.
+              stored-row sums p k l (n + v) at first (omega (arith, C .most)) most i (omega arith)
+              (λ e. omega (arith, C .most)) ∙ C .below i a;
           others = λ i t a b not.
               stored-column sums p k l (n + v) at first (omega (arith, C .most)) most i t a b not
               ∙ C .others i t a b not;
@@ -82,30 +87,34 @@ module _ (m : ℕ) (passengers : List ℕ) (l : ℕ) (before : List ℕ) where
   pub column-end : (sums : List ℕ) (n k : ℕ) → ColumnTo m passengers l before sums n k → k ≡ 0
       → ColumnSummed m passengers l before sums
   column-end sums n k C e =
-      record { long = C .long; summed = λ i a b. C .summed i (omega arith) b; others = C .others }
+      record { long = C .long; summed = λ i a b. C .summed i (omega arith) b; below = C .below; others = C .others }
 
 -- ---- all columns
 
--- the columns before i are summed
-pub record SummedTo (m : ℕ) (passengers sums : List ℕ) (i : ℕ) : Type 0 where
+-- the columns before i are summed, those from i on as they were
+pub record SummedTo (m : ℕ) (passengers before sums : List ℕ) (i : ℕ) : Type 0 where
   pub least : 1 ≤ i
   pub most : i ≤ m + 1
   pub long : length sums ≡ 4096
   pub summed : (k l : ℕ) → 1 ≤ k → k ≤ l → l < i → SumAt m passengers sums k l
+  pub below : (k l : ℕ) → 1 ≤ l → l < k → l < i → leavingIn sums k l ≡ leavingIn before k l
+  pub ahead : (k l : ℕ) → i ≤ l → l ≤ 64 → leavingIn sums k l ≡ leavingIn before k l
 
 -- nothing is summed yet
-pub summed-start : (m : ℕ) (passengers sums : List ℕ) → length sums ≡ 4096 → SummedTo m passengers sums 1
-summed-start m passengers sums long =
+pub summed-start : (m : ℕ) (passengers before : List ℕ) → length before ≡ 4096 → SummedTo m passengers before before 1
+summed-start m passengers before long =
     record {
       least = omega arith;
       most = omega arith;
       long = long;
       summed = λ k l a b c. absurd (omega arith);
+      below = λ k l a b c. absurd (omega arith);
+      ahead = λ k l a b. refl;
     }
 
-pub summed-next : (m : ℕ) (passengers sums sums′ : List ℕ) (i : ℕ) → m ≤ 64 → SummedTo m passengers sums i → i ≤ m
-    → ColumnSummed m passengers i sums sums′ → SummedTo m passengers sums′ (i + 1)
-summed-next m passengers sums sums′ i few S last C =
+pub summed-next : (m : ℕ) (passengers before sums sums′ : List ℕ) (i : ℕ) → m ≤ 64 → SummedTo m passengers before sums i → i ≤ m
+    → ColumnSummed m passengers i sums sums′ → SummedTo m passengers before sums′ (i + 1)
+summed-next m passengers before sums sums′ i few S last C =
     record {
       least = omega arith;
       most = omega arith;
@@ -114,4 +123,9 @@ summed-next m passengers sums sums′ i few S last C =
         | inl same ↦ rw same (C .summed k a (omega arith))
         | inr not ↦ C .others k l (omega arith) (omega arith) not ∙ S .summed k l a b (omega arith)
       ];
+      below = λ k l a b c. elim (same-or-not l i) [
+        | inl same ↦ rw same (C .below k (omega arith) ∙ S .ahead k i (le-refl i) (omega arith))
+        | inr not ↦ C .others k l a (omega arith) not ∙ S .below k l a b (omega arith)
+      ];
+      ahead = λ k l a b. C .others k l (omega arith) b (λ e. omega arith) ∙ S .ahead k l (omega arith) b;
     }

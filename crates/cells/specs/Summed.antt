@@ -29,16 +29,19 @@ pub record Fields (m : ℕ) (passengers : List ℕ) : Type 0 where
 abbrev pub SumAt : ℕ → List ℕ → List ℕ → ℕ → ℕ → Type 0
 SumAt m passengers sums k l = leavingIn sums k l ≡ sum (λ i. pairIn m passengers i (l + 1)) from k to l
 
--- the column of train l is summed down to its own row, every other column is as it was
+-- the column of train l is summed down to its own row, every other place is as it was
 pub record ColumnSummed (m : ℕ) (passengers : List ℕ) (l : ℕ) (before after : List ℕ) : Type 0 where
   pub long : length after ≡ length before
   pub summed : (k : ℕ) → 1 ≤ k → k ≤ l → SumAt m passengers after k l
+  pub below : (k : ℕ) → l < k → leavingIn after k l ≡ leavingIn before k l
   pub others : (k t : ℕ) → 1 ≤ t → t ≤ 64 → ¬ (t ≡ l) → leavingIn after k t ≡ leavingIn before k t
 
--- every column is; what stands below or past them does not count
-pub record Summed (m : ℕ) (passengers sums : List ℕ) : Type 0 where
-  pub long : length sums ≡ 4096
-  pub summed : (k l : ℕ) → 1 ≤ k → k ≤ l → l ≤ m → SumAt m passengers sums k l
+-- every column is, and every other place as it was
+pub record Summed (m : ℕ) (passengers before after : List ℕ) : Type 0 where
+  pub long : length after ≡ 4096
+  pub summed : (k l : ℕ) → 1 ≤ k → k ≤ l → l ≤ m → SumAt m passengers after k l
+  pub below : (k l : ℕ) → 1 ≤ l → l < k → l ≤ m → leavingIn after k l ≡ leavingIn before k l
+  pub past : (k l : ℕ) → m < l → l ≤ 64 → leavingIn after k l ≡ leavingIn before k l
 
 -- by train l, those who board at l or later and leave; the rest 0
 pub record Boarders (m : ℕ) (sums boarding : List ℕ) : Type 0 where

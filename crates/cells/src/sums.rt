@@ -44,7 +44,7 @@ fn sum_column(sums: &mut [u32], passengers: &[u32], m: u32, train: Train)
 // The columns of all trains.
 pub fn sum_columns(sums: &mut [u32], passengers: &[u32], m: u32)
     requires { ⌜ Fields m (now passengers) × (length (now sums) ≡ 4096) ⌝ }
-    ensures { λ _. ⌜ Summed m (now (passengers .entry)) (now (sums .exit)) ⌝ }
+    ensures { λ _. ⌜ Summed m (now (passengers .entry)) (now (sums .entry)) (now (sums .exit)) ⌝ }
 {
     let mut i = 1;
     while i <= m {

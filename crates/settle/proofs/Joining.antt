@@ -55,7 +55,7 @@ module _ (m T : ℕ) (L : Lists) (sound : Sound m T L) where
 
   -- ---- the sums
 
-  module _ (sums : List ℕ) (S : Summed m (L .passengers) sums) where
+  module _ {before : List ℕ} (sums : List ℕ) (S : Summed m (L .passengers) before sums) where
     leaving-same : (k l : ℕ) → 1 ≤ k → k ≤ l → l ≤ m → leavingIn sums k l ≡ leaving (lineOf N) k l
     unfolding pairIn leaving lineOf lineFrom passengersOfPair
     leaving-same k l a b c = S .summed k l a b c

@@ -8,7 +8,7 @@ use Rattle.cells.proofs.sums.sum_columns.Statement.{statement}
 use Rattle.cells.proofs.sums.sum_columns.Tie as tie
 
 abbrev Inv-loop : tie.InvT-loop
-Inv-loop sums₀ passengers m i₀ sums i = SummedTo m passengers sums i
+Inv-loop sums₀ passengers m i₀ sums i = SummedTo m passengers sums₀ sums i
 
 abbrev μ-loop : tie.MeasureT-loop
 μ-loop sums₀ passengers m i₀ sums i = m + 1 - i
@@ -30,7 +30,7 @@ loop-again : tie.Need-loop-again Inv-loop μ-loop
 loop-again c =
     let turn = c .before .before .before .before in
     let start = turn .before .before .before .before .pre in
-    summed-next _ _ _ _ _ (start .0 .trains) (turn .before .loop .inv) (turn .loop-test .taken)
+    summed-next _ _ _ _ _ _ (start .0 .trains) (turn .before .loop .inv) (turn .loop-test .taken)
     (c .before .before .sum-column .ensures)
 
 same-length : tie.Need-same-length Inv-loop μ-loop
@@ -41,7 +41,12 @@ returns : tie.Need-returns Inv-loop μ-loop
 returns c =
     let S = c .before .loop .inv in
     let end = c .loop-test .left in
-    record { long = S .long; summed = λ k l a b d. S .summed k l a b (omega arith) }
+    record {
+      long = S .long;
+      summed = λ k l a b d. S .summed k l a b (omega arith);
+      below = λ k l a b d. S .below k l a b (omega arith);
+      past = λ k l a b. S .ahead k l (omega (arith, S .most)) b;
+    }
 
 pub sum-columns-spec : {M : Type 1} → statement M
 sum-columns-spec =
