@@ -85,7 +85,7 @@ static void plan_bytes(const uint8_t *sheet, size_t n)
 static size_t plan_line(const struct paper_line *line)
 {
     uint8_t sheet[SHEET_ROOM];
-    size_t n = pack_line(line, sheet);
+    size_t n = paper_pack(line, sheet);
     plan_bytes(sheet, n);
     return n;
 }
@@ -164,7 +164,7 @@ static void refused_line(const char *name, const struct paper_line *line, uint64
                          uint64_t place)
 {
     uint8_t sheet[SHEET_ROOM];
-    refused(name, sheet, pack_line(line, sheet), number, place);
+    refused(name, sheet, paper_pack(line, sheet), number, place);
 }
 
 static void passes(const char *name, const struct paper_line *line)

@@ -120,7 +120,7 @@ static uint32_t take(const uint8_t *sheet, size_t *place, unsigned width)
     return value;
 }
 
-static void put(uint8_t *sheet, size_t *place, unsigned width, uint32_t value)
+void paper_put(uint8_t *sheet, size_t *place, unsigned width, uint32_t value)
 {
     for (unsigned i = width; i > 0; i--)
         put_bit(sheet, (*place)++, value >> (i - 1) & 1);
@@ -151,21 +151,22 @@ static void take_line(struct paper_line *line, const uint8_t *sheet)
     take_passengers(line, sheet, &place);
 }
 
-static void put_line(const struct paper_line *line, uint8_t *sheet)
+size_t paper_pack(const struct paper_line *line, uint8_t *sheet)
 {
     size_t place = 0;
-    put(sheet, &place, 7, line->m);
-    put(sheet, &place, 11, line->period);
+    paper_put(sheet, &place, 7, line->m);
+    paper_put(sheet, &place, 11, line->period);
     for (uint32_t i = 1; i <= line->m; i++) {
-        put(sheet, &place, 12, line->departure[i]);
-        put(sheet, &place, 10, line->driving[i]);
-        put(sheet, &place, 11, line->source[i]);
+        paper_put(sheet, &place, 12, line->departure[i]);
+        paper_put(sheet, &place, 10, line->driving[i]);
+        paper_put(sheet, &place, 11, line->source[i]);
     }
     for (uint32_t i = 1; i <= line->m; i++)
         for (uint32_t j = i + 1; j <= line->m + 1; j++)
-            put(sheet, &place, 14, line->passengers[i][j]);
+            paper_put(sheet, &place, 14, line->passengers[i][j]);
     while (place % 8 != 0)
         put_bit(sheet, place++, 0);
+    return place / 8;
 }
 
 /* ---- "Numbers of refusal": the checks of a line and of a sheet ---- */
@@ -594,7 +595,7 @@ struct paper_verdict paper_write(uint32_t m, uint32_t period,
             v = check_passengers(&line);
     }
     if (accepted(v)) {
-        put_line(&line, sheet);
+        paper_pack(&line, sheet);
         if (wrong(WRITE_CLEARS_THE_REST))
             memset(sheet + paper_length(m), 0, 3907 - paper_length(m));
     }
@@ -693,7 +694,7 @@ static struct paper_verdict check_report(const struct paper_line *line, uint32_t
 static void amend(uint8_t *sheet, uint32_t train, uint32_t delay)
 {
     size_t place = 18 + 33 * (size_t)(train - 1) + 12 + 10;
-    put(sheet, &place, 11, delay);
+    paper_put(sheet, &place, 11, delay);
 }
 
 /* An accepted report; returns its total. */

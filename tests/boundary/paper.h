@@ -95,8 +95,11 @@ enum paper_mistake {
 extern enum paper_mistake paper_wrong;
 extern const char *const paper_mistakes[PAPER_MISTAKES];
 
-/* "The bit sheet": the bytes of a sheet of m trains. */
+/* "The bit sheet": the bytes of a sheet of m trains; a field put at a bit, which then moves on; and
+ * a line packed as it is, each number cut to its field's width, with the bytes it takes. */
 size_t paper_length(uint32_t m);
+void paper_put(uint8_t *sheet, size_t *place, unsigned width, uint32_t value);
+size_t paper_pack(const struct paper_line *line, uint8_t *sheet);
 
 /* "Following a policy": the total of the policy keep, indexed by train from 2. */
 uint64_t paper_total(const struct paper_line *line, const uint8_t *keep);

@@ -270,21 +270,27 @@ static void report_once(uint32_t m, size_t sheet_count)
         check_fresh(sheet_count);
 }
 
+/* Lays the sheet of a good line on the desk, noise in the other lists; the call plans it. */
+static struct call lay_line(uint32_t m)
+{
+    struct paper_line line;
+    draw_line(&line, m);
+    scribble(desk.cells, sizeof desk.cells);
+    scribble_outputs();
+    return right_call(PLAN, paper_pack(&line, desk.sheet));
+}
+
 /* A plan, then reports in a row, some of them refused. */
 static void run_reports(void)
 {
-    struct paper_line line;
-    draw_line(&line, draw_trains());
-    size_t sheet_count = pack_line(&line, desk.sheet);
-    struct call plan = right_call(PLAN, sheet_count);
-    scribble(desk.cells, sizeof desk.cells);
-    scribble_outputs();
+    uint32_t m = draw_trains();
+    struct call plan = lay_line(m);
     make_call(&plan);
     for (uint32_t n = between(1, 12); n > 0 && more_calls(); n--)
         if (one_in(16))
-            report_on_damage(line.m, sheet_count);
+            report_on_damage(m, plan.count[SHEET]);
         else
-            report_once(line.m, sheet_count);
+            report_once(m, plan.count[SHEET]);
 }
 
 static uint64_t draw_cell(uint32_t kind)
@@ -314,17 +320,13 @@ static void draw_cells(uint32_t m)
 /* Reports on any cells: what a plan left and others spoiled, or noise. */
 static void run_any_cells(void)
 {
-    struct paper_line line;
-    draw_line(&line, draw_trains());
-    size_t sheet_count = pack_line(&line, desk.sheet);
-    struct call plan = right_call(PLAN, sheet_count);
-    scribble(desk.cells, sizeof desk.cells);
-    scribble_outputs();
+    uint32_t m = draw_trains();
+    struct call plan = lay_line(m);
     if (one_in(2))
         make_call(&plan);
-    draw_cells(line.m);
+    draw_cells(m);
     for (uint32_t n = between(1, 3); n > 0 && more_calls(); n--) {
-        struct call call = draw_report(line.m, sheet_count);
+        struct call call = draw_report(m, plan.count[SHEET]);
         spoil_at_times(&call);
         make_call(&call);
     }

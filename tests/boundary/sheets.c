@@ -137,34 +137,6 @@ void damage_line(struct paper_line *line)
         damage_one(line);
 }
 
-static void put(uint8_t *sheet, size_t *place, unsigned width, uint32_t value)
-{
-    while (width-- > 0) {
-        uint8_t mask = (uint8_t)(1u << (7 - *place % 8));
-        sheet[*place / 8] &= (uint8_t)~mask;
-        if (value >> width & 1)
-            sheet[*place / 8] |= mask;
-        ++*place;
-    }
-}
-
-size_t pack_line(const struct paper_line *line, uint8_t *sheet)
-{
-    size_t place = 0;
-    put(sheet, &place, 7, line->m);
-    put(sheet, &place, 11, line->period);
-    for (uint32_t i = 1; i <= line->m; i++) {
-        put(sheet, &place, 12, line->departure[i]);
-        put(sheet, &place, 10, line->driving[i]);
-        put(sheet, &place, 11, line->source[i]);
-    }
-    for (uint32_t i = 1; i <= line->m; i++)
-        for (uint32_t j = i + 1; j <= line->m + 1; j++)
-            put(sheet, &place, 14, line->passengers[i][j]);
-    put(sheet, &place, (unsigned)(-place % 8), 0);
-    return place / 8;
-}
-
 static void draw_bytes(uint8_t *bytes, size_t from, size_t to)
 {
     for (size_t i = from; i < to; i++)
@@ -212,7 +184,7 @@ size_t damage_bytes(uint8_t *sheet, size_t count)
         set_filling(sheet, count);
         return count;
     case 3:
-        put(sheet, &place, 7, one_in(3) ? between(1, 64)
+        paper_put(sheet, &place, 7, one_in(3) ? between(1, 64)
                               : one_in(2) ? wrong_m[below(4)] : between(65, 127));
         return count;
     default:
@@ -229,8 +201,8 @@ static size_t draw_noise(uint8_t *sheet)
         return count;
     size_t m = between(1, 64), place = 0, fitting = paper_length((uint32_t)m);
     draw_bytes(sheet, count, fitting > count ? fitting : count);
-    put(sheet, &place, 7, (uint32_t)m);
-    put(sheet, &place, 11, between(1, 1440));
+    paper_put(sheet, &place, 7, (uint32_t)m);
+    paper_put(sheet, &place, 11, between(1, 1440));
     return one_in(4) ? count : fitting;
 }
 
@@ -243,7 +215,7 @@ size_t draw_sheet(uint8_t *sheet)
     draw_line(&line, draw_trains());
     if (share < 50)
         damage_line(&line);
-    size_t count = pack_line(&line, sheet);
+    size_t count = paper_pack(&line, sheet);
     if (share < 20 || (share >= 50 && share < 75))
         count = damage_bytes(sheet, count);
     return count;

@@ -21,9 +21,6 @@ void draw_line(struct paper_line *line, uint32_t m);
 /* Puts one to five fields out of range, as far as the sheet's fields can hold it. */
 void damage_line(struct paper_line *line);
 
-/* Packs a line as it is, each number cut to its field's width; returns the bytes. */
-size_t pack_line(const struct paper_line *line, uint8_t *sheet);
-
 /* Damages the bytes of a packed sheet; returns their new number. */
 size_t damage_bytes(uint8_t *sheet, size_t count);
 

@@ -93,7 +93,7 @@ static void lay_line(uint32_t trains)
             line.passengers[i][j] = i * j * 7919 % 10001;
     }
     memset(&desk, 0, sizeof desk);
-    sheet_count = pack_line(&line, desk.sheet);
+    sheet_count = paper_pack(&line, desk.sheet);
 }
 
 /* The paint may be the very byte that a call writes, so it is another at each of three calls, and
