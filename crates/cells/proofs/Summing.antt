@@ -112,7 +112,8 @@ summed-start m passengers before long =
       ahead = λ k l a b. refl;
     }
 
-pub summed-next : (m : ℕ) (passengers before sums sums′ : List ℕ) (i : ℕ) → m ≤ 64 → SummedTo m passengers before sums i → i ≤ m
+pub summed-next : (m : ℕ) (passengers before sums sums′ : List ℕ) (i : ℕ) → m ≤ 64
+    → SummedTo m passengers before sums i → i ≤ m
     → ColumnSummed m passengers i sums sums′ → SummedTo m passengers before sums′ (i + 1)
 summed-next m passengers before sums sums′ i few S last C =
     record {

@@ -54,7 +54,8 @@ module _ {X A : Type 0} {n : ℕ} {number : A → ℕ} {numbers : A → List ℕ
 
   -- where the answer carries the number of the checks, the call returns it
   pub call-returns : {after : X} {stored : List ℕ} {r : ℕ} (checks : Verdict)
-      → ((a : A) → Leaves after a → number a ≡ numberIn checks) → Call n number numbers Leaves before list after stored r
+      → ((a : A) → Leaves after a → number a ≡ numberIn checks)
+      → Call n number numbers Leaves before list after stored r
       → Returns n list checks r
   call-returns {r = r} checks carries h =
       let listed : length list ≡ n → r ≡ numberIn checks =

@@ -38,8 +38,10 @@ report-refuses i v before list after stored r h = elim (same-or-not (length list
         ],
       )
   | inr other ↦
-      let w = h .wrong-list other in
-      (kept-refuses (w .returns) (ap (λ (x : Lent). x .buffers) (w .kept)), λ not-zero. ap (λ (x : Lent). x .sheet) (w .kept))
+      let w = h .wrong-list other in (
+        kept-refuses (w .returns) (ap (λ (x : Lent). x .buffers) (w .kept)),
+        λ not-zero. ap (λ (x : Lent). x .sheet) (w .kept),
+      )
 ]
 
 pub promises : Promises

@@ -47,13 +47,7 @@ ten-or-blanks (CellOverLimit k) = inr (λ e. omega arith, refl)
 
 module _ {before after : Buffers} {r : ℕ} where
   pub kept-refuses : r ≡ 10 → after ≡ before → Refuses before after r
-  kept-refuses ten same =
-      record {
-        ten = λ e. same;
-        decisions = λ not-zero other. absurd (other ten);
-        delays = λ not-zero other. absurd (other ten);
-        cells = λ not-zero. ap (λ (b : Buffers). b .cells) same;
-      }
+  kept-refuses ten same = record { ten = λ e. same; blanks = λ not-zero other. absurd (other ten) }
 
   refused-refuses : (a : Answer) (q : Refusal) → r ≡ numberOf q → RefusedFor q before after a → Refuses before after r
   refused-refuses a q number left = elim (ten-or-blanks q) [
@@ -64,9 +58,11 @@ module _ {before after : Buffers} {r : ℕ} where
     | inr (other, blanks) ↦
         record {
           ten = λ e. absurd (other (sym number ∙ e));
-          decisions = λ not-zero not-ten. left .decisions ∙ if-yes _ _ blanks;
-          delays = λ not-zero not-ten. left .delays ∙ if-yes _ _ blanks;
-          cells = λ not-zero. left .cells;
+          blanks = λ not-zero not-ten. record {
+            decisions = left .decisions ∙ if-yes _ _ blanks;
+            delays = left .delays ∙ if-yes _ _ blanks;
+            cells = left .cells;
+          };
         }
   ]
 
@@ -75,11 +71,6 @@ module _ {before after : Buffers} {r : ℕ} where
   outcome-refuses checks Stored a returns h = elim (fine-or-refused checks) [
     | inl fine ↦
         let zero : r ≡ 0 = returns ∙ h .number ∙ ap numberIn fine in
-        record {
-          ten = λ e. absurd (omega (arith, e, zero));
-          decisions = λ not-zero other. absurd (not-zero zero);
-          delays = λ not-zero other. absurd (not-zero zero);
-          cells = λ not-zero. absurd (not-zero zero);
-        }
+        record { ten = λ e. absurd (omega (arith, e, zero)); blanks = λ not-zero other. absurd (not-zero zero) }
     | inr (q, e) ↦ refused-refuses a q (returns ∙ h .number ∙ ap numberIn e) (h .refused q e)
   ]

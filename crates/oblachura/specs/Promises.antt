@@ -1,5 +1,6 @@
 -- What a program in C may rely on, whatever keeps the four contracts: they leave nothing open; 0 is returned exactly
--- where the operation accepts; and what a display must not paint is not there, or is what stood there before.
+-- where the operation accepts; and what a display must not paint is not there, or is what stood there before. Document
+-- 01, "Numbers of refusal" and "What the contracts have to say".
 --   One Leaves                   no two differing results: Leaves after stored r says what a call leaves and returns
 --   Returns n list checks r      r by the length of the list and by the checks
 --   Refuses before after r       what a plan or a report leaves that returned another number than 0
@@ -8,7 +9,7 @@
 use Prim.Native.Nat.{ℕ}
 use mathlib.Core.Path.{_≡_}
 use mathlib.Core.List.{List}
-use lib.ListN.{length, replicate}
+use lib.ListN.{length}
 use Rattle.rail.specs.declared.Verdict.{Verdict}
 use Rattle.rail.specs.declared.Verdict.the-variants.{Fine}
 use Rattle.rail.specs.Verdict.{numberIn}
@@ -18,6 +19,7 @@ use Rattle.writer.specs.Write.{Given, writeVerdict}
 use Rattle.settle.specs.Buffers.{Buffers}
 use Rattle.planner.specs.Plan.{planVerdict}
 use Rattle.planner.specs.Report.{reportVerdict}
+use Rattle.demands.specs.Answered.{Blanked}
 use Rattle.oblachura.specs.Calls.{ReadCall, WriteCall, PlanCall, Lent, ReportCall}
 
 abbrev pub One : {X : Type 0} → (X → List ℕ → ℕ → Type 0) → Type 0
@@ -34,11 +36,8 @@ pub record Returns (n : ℕ) (list : List ℕ) (checks : Verdict) (r : ℕ) : Ty
 pub record Refuses (before after : Buffers) (r : ℕ) : Type 0 where
   -- on 10 the buffers still hold what they held
   pub ten : r ≡ 10 → after ≡ before
-  -- any other refusal blanks
-  pub decisions : ¬ (r ≡ 0) → ¬ (r ≡ 10) → after .decisions ≡ replicate 64 2
-  pub delays : ¬ (r ≡ 0) → ¬ (r ≡ 10) → after .delays ≡ replicate 64 0
-  -- and none changes a cell
-  pub cells : ¬ (r ≡ 0) → after .cells ≡ before .cells
+  -- any other refusal blanks the decisions and the delays, and changes no cell
+  pub blanks : ¬ (r ≡ 0) → ¬ (r ≡ 10) → Blanked before after
 
 pub record Promises : Type 0 where
   pub one-read : (s : List ℕ) (before : Lists) (list : List ℕ) → One (ReadCall s before list)

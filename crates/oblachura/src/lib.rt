@@ -20,6 +20,7 @@ use rail::Train;
 use reader::read;
 use writer::write;
 
+// Reads a sheet into the lent lists; the answer is number, place, m and T.
 #[no_mangle]
 pub extern "C" fn oblachura_read(
     sheet: &[u8],
@@ -43,6 +44,7 @@ pub extern "C" fn oblachura_read(
     tell_reading(read(sheet, departures, driving, delays, passengers), answer)
 }
 
+// Writes the sheet of m, T and four lists; the answer is number, place and its length.
 #[no_mangle]
 pub extern "C" fn oblachura_write(
     m: u32,
@@ -70,6 +72,7 @@ pub extern "C" fn oblachura_write(
     )
 }
 
+// Plans the line of a sheet; the answer is number, place and total.
 #[no_mangle]
 pub extern "C" fn oblachura_plan(
     sheet: &[u8],
@@ -90,6 +93,7 @@ pub extern "C" fn oblachura_plan(
     tell_answer(plan(sheet, cells, decisions, delays), answer)
 }
 
+// Takes a new source delay of one train; the answer is number, place and total.
 #[no_mangle]
 pub extern "C" fn oblachura_report(
     sheet: &mut [u8],

@@ -19,12 +19,15 @@ check-lists-requires c κs =
 enum-told : tie.Need-enum-told
 enum-told c = search needs
 
+abbrev start-of : tie.After-check-lists → tie.Start
+start-of c = c .before .before .before .before .before .before .before .before .before .before .before
+
 -- the verdict of the columns is that of the sheet's numbers
 numbers : (c : tie.After-check-lists) →
-    let s = c .before .before .before .before .before .before .before .before .before .before .before .args .sheet .now in
+    let s = start-of c .args .sheet .now in
     c .check-lists .result ≡ numbersVerdict (trainsOf s) (timesOf s) (passengersOf s)
 numbers c =
-    let start = c .before .before .before .before .before .before .before .before .before .before .before in
+    let start = start-of c in
     c .check-lists .ensures ∙ verdict-same _ _ (columns-same _ _ (start .pre .0) _ (start .pre .1))
 
 returns : tie.Need-returns
