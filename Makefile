@@ -4,14 +4,17 @@ SHELL = bash
 .SHELLFLAGS = -o pipefail -c
 # Two at once would build in one folder.
 .NOTPARALLEL:
-.PHONY: help run test archive tools outside example program boundary bench vectors wrong format
+.PHONY: help run test cases desk archive tools outside example program boundary display bench vectors wrong format
 
 help:
-	@echo 'make run       prove plan and report, run them on the cases of document 01 and show what they answer and store'
+	@echo 'make run       build the display, plan the sample line B and show its board'
 	@echo 'make test      the gate: prove everything from nothing, try the wrong versions, run the programs and the tests'
-	@echo '               from outside (10 minutes and more)'
-	@echo 'make archive   build $(ARCHIVE), to link with include/oblachura.h'
-	@echo 'make outside   the tests from outside, in C: the example, the plan program, the archive against document 01'
+	@echo '               from outside (10 minutes)'
+	@echo 'make desk      build the display, $(DESK)'
+	@echo 'make archive   prove the operations and build $(ARCHIVE), to link with include/oblachura.h'
+	@echo 'make cases     prove plan and report, run them on the cases of document 01 and show what they answer and store'
+	@echo 'make outside   the tests from outside: the C example, the plan program, the archive against document 01, the'
+	@echo '               display'
 	@echo 'make bench     compare the archive with plain C, side by side'
 	@echo 'make tools     install what the tests from outside need, or tell what is missing'
 	@echo 'make vectors   compare the test inputs and the answers they must get with independent readings of document 01'
@@ -25,38 +28,58 @@ CC_X86 = gcc
 CXX_X86 = g++
 EMULATOR =
 CALLS = 200000
+SANITIZE = -g -fsanitize=address,undefined -fno-sanitize-recover=all
 else
 CC_X86 = x86_64-linux-gnu-gcc
 CXX_X86 = x86_64-linux-gnu-g++
 EMULATOR = qemu-x86_64 -L /usr/x86_64-linux-gnu
 CALLS = 20000
+# without a library of its own, which an emulator may not bear
+SANITIZE = -g -fsanitize=undefined -fsanitize-undefined-trap-on-error
 endif
 
 ARCHIVE = target/staticlib/liboblachura.a
 BUILT = target/c
 WARN = -Wall -Wextra -Werror
 FAST = -O3 -falign-functions=64
+DESK = $(BUILT)/desk
+DISPLAY = $(CC_X86) -std=c11 -D_POSIX_C_SOURCE=200809L -O2 $(WARN) -Wshadow -Wconversion -Iinclude
+REFUSING = tests/display/refusing/refusing.c -Wl,--wrap=oblachura_report
 
 RT = @command -v rt > /dev/null || { echo 'rt, the command of the Rattle toolchain, is not on the PATH' >&2; exit 1; }
 
-run:
+run: desk
+	@echo quit | $(EMULATOR) $(DESK) board samples/B.sheet
+	@echo 'to report delays: $(strip $(EMULATOR) $(DESK)) board samples/B.sheet, then for instance 1 5'
+
+test:
+	@bash .ci/run
+
+cases:
 	$(RT)
 	@echo 'proving what plan and report rest on (two or three minutes the first time) ..' >&2
 	@rt check plan_cases report_cases > /dev/null || { rt check plan_cases report_cases; exit 1; }
 	@cat target/log/plan_cases.stdout target/log/report_cases.stdout
 
-test:
-	@bash .ci/run
-
 tools:
 	@bash tests/tools.sh
 
-archive:
-	$(RT)
-	@rt staticlib oblachura > /dev/null 2>&1 || { rt staticlib oblachura; exit 1; }
-	@echo 'built $(ARCHIVE)'
+archive: $(ARCHIVE)
 
-outside: example program boundary
+# anew when a crate has changed
+$(ARCHIVE): crates.txt $(shell find crates -name '*.rt' -o -name '*.antt')
+	$(RT)
+	@echo 'proving the operations and building the archive (two or three minutes) ..' >&2
+	@rt staticlib oblachura > /dev/null 2>&1 || { rt staticlib oblachura; exit 1; }
+	@echo 'built $(ARCHIVE)' >&2
+
+desk: $(DESK)
+
+$(DESK): $(ARCHIVE) $(wildcard display/*) include/oblachura.h | tools
+	@mkdir -p $(BUILT)
+	@$(DISPLAY) display/*.c $(ARCHIVE) -o $@
+
+outside: example program boundary display
 
 # as C and as C++; the header by itself also as older C
 example: tools archive
@@ -80,6 +103,19 @@ boundary: tools archive
 	@$(EMULATOR) $(BUILT)/boundary --calls $(CALLS)
 	@$(EMULATOR) $(BUILT)/boundary --calls $(CALLS) --wrong
 
+# the same tests on a build that stops at the first access outside its memory; then wrong displays
+display: desk
+	@$(DISPLAY) display/*.c $(REFUSING) $(ARCHIVE) -o $(DESK)_refusing
+	@$(DISPLAY) $(SANITIZE) display/*.c $(ARCHIVE) -o $(DESK)_sane
+	@$(DISPLAY) $(SANITIZE) display/*.c $(REFUSING) $(ARCHIVE) -o $(DESK)_sane_refusing
+	@bash tests/display.sh "$(CURDIR)/$(DESK)" "$(CURDIR)/$(DESK)_refusing" $(EMULATOR)
+	@bash tests/display.sh "$(CURDIR)/$(DESK)_sane" "$(CURDIR)/$(DESK)_sane_refusing" $(EMULATOR)
+	@python3 tests/boards.py --run 150 $(EMULATOR) "$(CURDIR)/$(DESK)"
+	@python3 tests/boards.py --run 50 $(EMULATOR) "$(CURDIR)/$(DESK)_sane"
+	@bash tests/terminal.sh "$(CURDIR)/$(DESK)" $(EMULATOR)
+	@bash tests/terminal.sh "$(CURDIR)/$(DESK)_sane" $(EMULATOR)
+	@bash tests/display_wrong.sh $(ARCHIVE) $(DISPLAY) -O0 -- $(EMULATOR)
+
 bench: tools archive
 	@mkdir -p $(BUILT)
 	@$(CC_X86) -std=c11 $(FAST) $(WARN) -DBUILT_WITH='"$(CC_X86) $(FAST)"' -Iinclude \
@@ -94,6 +130,8 @@ vectors:
 	python3 tests/report_cases.py --check
 	python3 tests/reports.py --check
 	python3 tests/program.py --check
+	python3 tests/samples.py --check
+	python3 tests/boards.py --check
 
 wrong:
 	python3 tests/plans.py --wrong

@@ -1,9 +1,9 @@
 #!/usr/bin/env bash
-# What the tests from outside need beside the Rattle toolchain: a C and a C++ compiler for x86-64 and, on another
-# machine, an emulator. Installs Debian's packages of what is missing, or tells which to install.
+# What the tests from outside need beside the Rattle toolchain: a C and a C++ compiler for x86-64, Python and, on a
+# machine that is not x86-64, an emulator. Installs Debian's packages of what is missing, or tells which to install.
 set -euo pipefail
 
-needed='make:make cmp:diffutils'
+needed='make:make cmp:diffutils python3:python3'
 if [ "$(uname -m)" = x86_64 ]; then
   needed="$needed gcc:gcc g++:g++"
 else
