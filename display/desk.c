@@ -41,7 +41,10 @@ static int fail(const char *command, const char *what)
 
 static int fail_on(const char *command, const char *name)
 {
-    fprintf(stderr, "desk %s: %s: %s\n", command, name, strerror(errno));
+    char shown[201];
+    const char *why = strerror(errno);
+    printable(shown, sizeof shown - 1, (struct text){name, strlen(name)});
+    fprintf(stderr, "desk %s: %s: %s\n", command, shown, why);
     return 1;
 }
 
