@@ -9,7 +9,7 @@ SHELL = bash
 help:
 	@echo 'make run       build the display, plan the sample line B and show its board'
 	@echo 'make test      the gate: prove everything from nothing, try the wrong versions, run the programs and the tests'
-	@echo '               from outside (10 minutes)'
+	@echo '               from outside (about 10 minutes)'
 	@echo 'make desk      build the display, $(DESK)'
 	@echo 'make archive   prove the operations and build $(ARCHIVE), to link with include/oblachura.h'
 	@echo 'make cases     prove plan and report, run them on the cases of document 01 and show what they answer and store'
@@ -17,7 +17,7 @@ help:
 	@echo '               display'
 	@echo 'make bench     compare the archive with plain C, side by side'
 	@echo 'make tools     install what the tests from outside need, or tell what is missing'
-	@echo 'make vectors   compare the test inputs and the answers they must get with independent readings of document 01'
+	@echo 'make vectors   compare the test inputs, and the answers that are not by hand, with what makes them (part of the gate)'
 	@echo 'make wrong     tell how many test records each of 30 wrong rules of plan and 45 of report changes (2 minutes)'
 	@echo 'make format    lay out every source file'
 
