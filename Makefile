@@ -17,7 +17,7 @@ help:
 	@echo '               display'
 	@echo 'make bench     compare the archive with plain C, side by side'
 	@echo 'make tools     install what the tests from outside need, or tell what is missing'
-	@echo 'make vectors   compare the test inputs, and the answers that are not by hand, with what makes them (part of the gate)'
+	@echo 'make vectors   compare the test inputs, and the answers not written by hand, with what makes them'
 	@echo 'make wrong     tell how many test records each of 30 wrong rules of plan and 45 of report changes (2 minutes)'
 	@echo 'make format    lay out every source file'
 

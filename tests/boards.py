@@ -198,9 +198,10 @@ def some_sheet():
     line = small_line(m) if chance.below(2) else usual_line(m)
     data = line.sheet()
     if kind == 3:
-        damage = [data[:-1], data + b'\0', filled(data, m, [1]), line.put(8, chance.between(1, pairs_of(m)), 10001).sheet(),
-                  line.put(6, chance.between(1, m), 1441).sheet(), line.put(5, chance.between(1, m), 2880).sheet()]
-        return chance.one_of(damage)
+        return chance.one_of([data[:-1], data + b'\0', filled(data, m, [1]),
+                              line.put(8, chance.between(1, pairs_of(m)), 10001).sheet(),
+                              line.put(6, chance.between(1, m), 1441).sheet(),
+                              line.put(5, chance.between(1, m), 2880).sheet()])
     return data
 
 
@@ -213,9 +214,9 @@ def some_command(m):
     if kind == 0:
         return b'plan'
     if kind == 1:
-        return chance.one_of([b'', b'-1 5', b'1 5 6', b'1', b'plan 1', b'Plan', b'1 5x', b'1;5', b'1\t5', b' 2  7 ', b'1 5\r',
-                              b'1 0x5', b'1 +5', b'quit now', b'\x1b[2J', b'1\x005', b'\xc3\xa4', b'01 007', b'9' * 1023 + b' 1',
-                              b'1 ' + b'0' * 1022, b'7 ' * 600])
+        return chance.one_of([b'', b'-1 5', b'1 5 6', b'1', b'plan 1', b'Plan', b'1 5x', b'1;5', b'1\t5', b' 2  7 ',
+                              b'1 5\r', b'1 0x5', b'1 +5', b'quit now', b'\x1b[2J', b'1\x005', b'\xc3\xa4', b'01 007',
+                              b'9' * 1023 + b' 1', b'1 ' + b'0' * 1022, b'7 ' * 600])
     if kind == 2:
         return some_bytes(chance.below(8)).replace(b'\n', b' ')
     return b'%d %d' % (some_number(chance.between(1, max(m, 1))), some_number(chance.below(40)))
