@@ -57,9 +57,6 @@ module _ (m k : ℕ) (slack source sums : List ℕ) where
   module _ (given : RunningGiven m slack source) (first : 1 ≤ k) (excess keep : List ℕ) (late i : ℕ)
       (S : KeptTo excess keep late i) (last : i ≤ m) (over arrives : ℕ) (e : over ≡ late - nth slack i)
       (f : arrives ≡ over + nth source i) where
-    pub excess-le : over ≤ latest
-    excess-le = omega (arith, S .small)
-
     pub arrives-on : arrives ≡ arrivalOn R k i
     arrives-on =
         f ∙ ap (λ (x : ℕ). x + nth source i) (e ∙ S .ahead)
