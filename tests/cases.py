@@ -1,7 +1,8 @@
 #!/usr/bin/env python3
-# The records of the program sheet_cases, crates/sheet_cases/stdin: document 01's list "By program" for read and write, and
-# every refusal at its boundary and in its order. The sheets are packed by tests/sheets.py, whose header gives the form of a
-# record. What the program must print for them, crates/sheet_cases/stdout, is written by hand from document 01.
+# The records of the program sheet_cases, crates/sheet_cases/stdin: document 01's list "By program" for read and
+# write, and every refusal at its boundary and in its order. The sheets are packed by tests/sheets.py, whose header
+# gives the form of a record. What the program must print for them, crates/sheet_cases/stdout, is written by hand from
+# document 01.
 #
 #   python3 tests/cases.py            writes the records
 #   python3 tests/cases.py --check    compares; ends with 1 if they differ

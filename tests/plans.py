@@ -365,7 +365,8 @@ def timed(m, T, slacks, driving, delays, passengers, start=0):
 def small_line(m):
     """Small numbers, so that ties and excesses of 0 are frequent."""
     late, full = chance.between(1, 8), chance.between(1, 4)
-    return timed(m, chance.between(1, 2 * late), [chance.one_of([0, 0, 1, chance.below(late + 1)]) for _ in range(m - 1)],
+    return timed(m, chance.between(1, 2 * late),
+                 [chance.one_of([0, 0, 1, chance.below(late + 1)]) for _ in range(m - 1)],
                  [chance.below(6) for _ in range(m)],
                  [chance.one_of([0, chance.below(late + 1)]) for _ in range(m)],
                  [chance.one_of([0, 1, chance.below(full + 1)]) for _ in range(pairs_of(m))], chance.below(20))
@@ -373,7 +374,8 @@ def small_line(m):
 
 def usual_line(m):
     """A period and delays of the same size as the slacks, some dozen passengers."""
-    return timed(m, chance.between(5, 60), [chance.below(12) for _ in range(m - 1)], [chance.between(2, 20) for _ in range(m)],
+    return timed(m, chance.between(5, 60), [chance.below(12) for _ in range(m - 1)],
+                 [chance.between(2, 20) for _ in range(m)],
                  [chance.one_of([0, chance.below(10), chance.below(40)]) for _ in range(m)],
                  [chance.below(80) for _ in range(pairs_of(m))], chance.below(600))
 
@@ -402,7 +404,8 @@ def accepted():
     # only the first train late; only one pair; an excess of 0 and of 1 by the slack
     for m in (2, 3, 5, 9):
         for slack in (6, 7, 8):
-            P('first late', timed(m, 9, [slack] + [0] * (m - 2), [3] * m, [7] + [0] * (m - 1), [1] * pairs_of(m)).sheet())
+            P('first late', timed(m, 9, [slack] + [0] * (m - 2), [3] * m, [7] + [0] * (m - 1),
+                                  [1] * pairs_of(m)).sheet())
         for place in range(1, pairs_of(m) + 1, 3):
             alone = [0] * pairs_of(m)
             alone[place - 1] = chance.between(1, 9)
@@ -425,7 +428,8 @@ def wrong_lengths():
                 P('lengths', sheet, tuple(lengths))
     for lengths in ((0, 0, 0), (64, 64, 36), (4095, 65, 64), (4096, 63, 65), (2080, 64, 64)):
         P('lengths', right, lengths)
-    for damaged in (right[:-1], right + b'\0', small_line(2).with_head(T=0).sheet(), small_line(2).with_head(m=65).sheet()):
+    for damaged in (right[:-1], right + b'\0', small_line(2).with_head(T=0).sheet(),
+                    small_line(2).with_head(m=65).sheet()):
         P('lengths', damaged, (4096, 64, 63))
 
 
@@ -712,17 +716,18 @@ class RefusesAll(Rule):
         return found if found[0] != 0 else (1, 0)
 
 
-WRONG = [TieGoes, LastFirst, MostKept, ChargedAtZero, SlackForgotten, ChargedTwice, NextPlace, BoardersDropped, LeaversDropped,
-         LastStationSpared, FirstBoardersOnly, RowOne, NarrowRows, ByColumn, AllKeep, AllGo, ByLeavingStation,
-         FirstKeeps, DecisionsBehind, DelaysBehind, Departures, CellsCleared, NothingStored, NoBlanks, BlanksAtTen,
-         CellsBlank, LengthsLast, FillingFirst, KindByKind, RefusesAll]
+WRONG = [TieGoes, LastFirst, MostKept, ChargedAtZero, SlackForgotten, ChargedTwice, NextPlace, BoardersDropped,
+         LeaversDropped, LastStationSpared, FirstBoardersOnly, RowOne, NarrowRows, ByColumn, AllKeep, AllGo,
+         ByLeavingStation, FirstKeeps, DecisionsBehind, DelaysBehind, Departures, CellsCleared, NothingStored,
+         NoBlanks, BlanksAtTen, CellsBlank, LengthsLast, FillingFirst, KindByKind, RefusesAll]
 
 
 def try_wrong(lines):
     unseen = 0
     for wrong in WRONG:
         rule = wrong()
-        changed = sum(1 for (_, sheet, lengths), line in zip(records, lines) if sum_line(rule.answer(sheet, lengths)) != line)
+        changed = sum(1 for (_, sheet, lengths), line in zip(records, lines)
+                      if sum_line(rule.answer(sheet, lengths)) != line)
         print('%4d of %d: %s' % (changed, len(records), wrong.__doc__))
         unseen += changed == 0
     return 1 if unseen else 0
@@ -771,7 +776,8 @@ def main(arguments):
         print('accepted by m: %s' % ', '.join('%d x%d' % item for item in sorted(trains.items())))
         print('accepted with: %s' % ', '.join('%s x%d' % (what, seen[what]) for what in (
             'tie', 'missed', 'kept late', 'both', 'excess 0')))
-        print('refused with several at once x%d, 10 before another x%d' % (seen['several at once'], seen['10 before another']))
+        print('refused with several at once x%d, 10 before another x%d'
+              % (seen['several at once'], seen['10 before another']))
     return wrong
 
 

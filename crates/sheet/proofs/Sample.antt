@@ -39,7 +39,8 @@ sheet-a =
     }
 
 pub sheet-a-accepted : sheetVerdict sheetA ≡ Fine
-unfolding sheetVerdict headVerdict rangesVerdict bodyVerdict numbersVerdict trainVerdict earliestOf passengersVerdict fillingVerdict refuse_when_below_ _andThen_ firstOf runOf ifBelow bitAt fieldOf entry bitsOf bytesOf pairsOf
+unfolding sheetVerdict headVerdict rangesVerdict bodyVerdict numbersVerdict trainVerdict earliestOf passengersVerdict
+    fillingVerdict refuse_when_below_ _andThen_ firstOf runOf ifBelow bitAt fieldOf entry bitsOf bytesOf pairsOf
 sheet-a-accepted = refl
 
 -- 9 bytes for m = 1, 26 for m = 3, 3,907 for m = 64
