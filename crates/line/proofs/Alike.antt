@@ -10,8 +10,7 @@ use Rattle.lists.proofs.Induction.{up}
 use Rattle.line.specs.Line.{Running, Line}
 use Rattle.line.specs.Policy.{Decision, departure}
 use Rattle.line.specs.Cells.{Table, leaving, aboard, Book, bookOf, runFrom, excessOn, arrivalOn, keepCost, goCost}
-use Rattle.line.specs.Cells.{cellBy}
-use Rattle.line.specs.Cells.{choice, under, begins, policyBy, decide}
+use Rattle.line.specs.Cells.{cellBy, choice, under, begins, policyBy, decide}
 use Rattle.line.specs.Alike.{LinesAlike, BooksAlike}
 use Rattle.line.proofs.Sums.{over, over-same}
 use Rattle.line.proofs.Passengers.{leaving-over, aboard-over}

@@ -7,8 +7,7 @@ use Rattle.line.specs.Sum.{sum_from_to_}
 use Rattle.line.specs.Line.{lineFrom}
 use Rattle.line.specs.Policy.{arrival, excess, departure, missed, atFirstMissed, counts, pairsTotal, total}
 use Rattle.line.specs.Cells.{leaving, aboard, runFrom, excessOn, arrivalOn, keepCost, goCost, cellBy, choice}
-use Rattle.line.specs.Cells.{begins}
-use Rattle.line.specs.Cells.{policyBy, decide}
+use Rattle.line.specs.Cells.{begins, policyBy, decide}
 use Rattle.line.specs.Cases.{CasesHold}
 
 pub cases : CasesHold

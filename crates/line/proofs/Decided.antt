@@ -14,8 +14,7 @@ use Rattle.lists.proofs.Induction.{up}
 use Rattle.line.specs.Line.{Running}
 use Rattle.line.specs.Policy.{Decision, Keep, Go, Policy, arrival, excess, departure, missed, Day, dayOf}
 use Rattle.line.specs.Cells.{Table, Along, Book, arrivalOn, choice, under, begins, policyBy, decide}
-use Rattle.line.proofs.Following.{keep-or-go, keep-not-go, first-on-time, go-departs}
-use Rattle.line.proofs.Following.{keep-maintains, go-misses}
+use Rattle.line.proofs.Following.{keep-or-go, keep-not-go, first-on-time, go-departs, keep-maintains, go-misses}
 use Rattle.line.proofs.Starts.{startOf, start-le, start-earlier, start-missed, start-maintained, start-second}
 use Rattle.line.proofs.Along.{start-arrives, start-excess}
 use Rattle.line.proofs.Choices.{choice-no-excess, choice-go, choice-start}
