@@ -1,5 +1,9 @@
 -- Document 01, "Row k depends on trains k to m alone": two lines, two books and two days alike from train k to the
 -- last. Nothing is asked of station k, neither slack nor period nor a miss: the run that begins there waits for nobody.
+--   RunningAlike k m R S   trains k to m run alike
+--   DaysAlike k m D E      they arrive alike, and miss the same transfers
+--   LinesAlike k L M       the lines L and M are alike from train k to their last
+--   BooksAlike k A B       and so are the books A and B
 -- Assumes nothing.
 use Prim.Native.Nat.{ℕ, _+_, _≤_, _<_}
 use mathlib.Core.Path.{_≡_}

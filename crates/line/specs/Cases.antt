@@ -1,5 +1,10 @@
 -- Document 01, "Sums to check by hand": the cases a, b1 to b8, c, d as one table under one claim, that each way to an
 -- answer gives the answer in the table.
+--   Case        a line, the ways that fit it, and the answer printed
+--   computed    the answers that the ways of a case find
+--   printed     the answer of a case, once for each way
+--   table       the cases
+--   CasesHold   the claim
 -- Assumes nothing.
 use Prim.Native.Nat.{ℕ, _-_}
 use mathlib.Core.Path.{_≡_}

@@ -1,9 +1,10 @@
 -- The working cells. Document 01, "The working cells": what a cell means, how it is worked, and what is read off.
 -- Cell (k, l), 1 ≤ k ≤ l ≤ m, is c k l of a table c. The run from k begins with train k departing with delay 0 and
 -- maintains every transfer after it.
+--   Table              numbers by row and column
 --   IsCell L k l n     n is what document 01 says that cell (k, l) is
 --   leaving, aboard    the two sums of passengers by which a cell is worked
---   Book               what cells are worked from: a line with these sums in the place of its passengers
+--   Book, bookOf L     what cells are worked from: a line with these sums in the place of its passengers
 --   excessOn R k l     the excess at station l on the run from k; 0 at l = k, where the run begins
 --   arrivalOn R k l    train l's arrival delay on the run from k
 --   keepCost, goCost   the two choices at cell (k, l)

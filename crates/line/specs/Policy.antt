@@ -1,5 +1,5 @@
 -- What comes of a policy. Document 01, "Following a policy", as far as the total.
---   Policy                keep or go, for each train from 2 to m; what it says elsewhere makes no difference
+--   Decision, Policy      keep or go; one for each train from 2 to m, and what it says elsewhere makes no difference
 --   arrival R p i         how late train i arrives under the policy p
 --   excess R p s          what is left of the arrival delay of train s - 1 once the slack at station s is used up
 --   departure R p i       how late train i departs

@@ -1,4 +1,6 @@
 -- Ways to the answer of a case of document 01, "Sums to check by hand".
+--   Rows, Answer  rows of cells in use; an answer with the rows that it was read off
+--   Way           one of the four that follow
 --   Following     follow the decisions printed
 --   Listing       list all policies in the order in which document 01 prefers them, and follow the first of least
 --                 total; the cells have no part in it

@@ -1,6 +1,6 @@
 -- The run from train k, station by station: the delays upward, what go costs downward.
 --   KeptTo   the stations from k to i - 1 are done, train i - 1 having arrived late by `late`
---   GoneTo     the stations after i are done, `left` being all who board at k or later and leave a train after i
+--   GoneTo   the stations after i are done, `left` being all who board at k or later and leave a train after i
 -- Assumes nothing.
 use mathlib.Core.Path.{_≡_, ap, sym, _∙_}
 use mathlib.Core.List.{List}

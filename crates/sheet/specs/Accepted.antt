@@ -1,6 +1,7 @@
 -- Accepted sheets as plain facts. Document 01, the table of "The line and its numbers", and "The bit sheet".
 --   Lengths n k L        three lists of n numbers, one of k
---   InRange N            every number of the line lies in its range, and no slack is under 0
+--   TrainInRange x i     every number of train i lies in its range, and its slack is not under 0
+--   InRange N            so it is with every train, and m, T and the passengers lie in their ranges
 --   AcceptedSheet s      the sheet s passes every check
 --   SameNumbers N M      the numbers N and M are equal at every train and every passenger field of the line
 --   SheetOf N s          s is the sheet of the numbers N: every field holds its number, and the filling bits are 0

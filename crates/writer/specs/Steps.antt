@@ -1,4 +1,9 @@
 -- What the steps of writing a sheet need and leave; write's own promise stands in Write.
+--   PutRoom, ColumnPut     a column
+--   HeadRoom, HeadPut      m and T
+--   TimesRoom, TimesPut    the three columns of the trains
+--   FillingPut             the bits behind the last field
+--   Writable               what the whole needs; what it leaves is SheetOf (sheet/specs/Accepted)
 -- Assumes nothing.
 use Prim.Native.Nat.{ℕ, _+_, _-_, _*_, _^_, _≤_, _<_}
 use mathlib.Core.Path.{_≡_}
@@ -27,11 +32,13 @@ pub record ColumnPut (s : List ℕ) (c : Column) (n : ℕ) (l t : List ℕ) : Ty
   pub others : (a w : ℕ) → ((k : ℕ) → k < n → Apart a w (c .first + c .step * k) (c .width))
       → fieldOf t a w ≡ fieldOf s a w
 
+-- the sheet has room for m and T, and they fit their fields
 pub record HeadRoom (s : List ℕ) (m T : ℕ) : Type 0 where
   pub room : 18 ≤ 8 * length s
   pub trains : m ≤ 64
   pub period : T ≤ 1440
 
+-- t holds m and T; of what stands behind them nothing is said, because every field is put after them
 pub record HeadPut (s : List ℕ) (m T : ℕ) (t : List ℕ) : Type 0 where
   pub long : length t ≡ length s
   pub trains : trainsOf t ≡ m

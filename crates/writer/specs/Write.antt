@@ -1,6 +1,7 @@
 -- What write returns and what it leaves in the lent bytes. Document 01, "Four operations", and "Numbers of refusal".
 --   writeNumber a, writePlace a, writeLength a     what the paper has the answer a carry
---   Given                     m, T and the four lists
+--   writingOf v n             the answer by the verdict v
+--   Given, given m T L        m, T and the four lists
 --   numbersGiven G            the line's numbers that they hold
 --   writeVerdict room G       all checks of write, in their order, for an output of `room` bytes
 --   Accepts room G            the same as plain facts
