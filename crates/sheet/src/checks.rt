@@ -1,4 +1,5 @@
-// The checks on a line's numbers, in the order of document 01. Reading and writing share them.
+// The checks on a line's numbers, in the order of document 01: those of a sheet that is read,
+// planned or reported on, and of the lists that are written.
 ghost use mathlib.Core.Path.{_≡_};
 ghost use Prim.Native.Nat.{_≤_};
 ghost use lib.ListN.{length};

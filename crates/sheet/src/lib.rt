@@ -1,3 +1,3 @@
-// The sheet: where its fields stand, and the checks that reading and writing share.
+// The sheet: where its fields stand, and the checks that read, write, plan and report share.
 pub mod checks;
 pub mod format;
