@@ -22,6 +22,7 @@ pub enum Writing {
 }
 
 impl Writing {
+    // The number of the refusal, 0 where accepted.
     pub fn number(self) -> u32
         ensures { λ r. ⌜ r ≡ writeNumber self ⌝ }
     {
@@ -31,6 +32,7 @@ impl Writing {
         }
     }
 
+    // The place of the refusal, 0 where accepted or where it has none.
     pub fn place(self) -> u32
         ensures { λ r. ⌜ r ≡ writePlace self ⌝ }
     {
@@ -40,6 +42,7 @@ impl Writing {
         }
     }
 
+    // The bytes of the sheet, 0 where refused.
     pub fn length(self) -> usize
         ensures { λ r. ⌜ r ≡ writeLength self ⌝ }
     {
