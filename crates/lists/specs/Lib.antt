@@ -1,4 +1,3 @@
 pub mod Choice
 pub mod Run
 pub mod Filled
-pub mod Splice

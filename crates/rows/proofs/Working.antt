@@ -10,9 +10,8 @@ use native.Mathlib.Nat.{le-refl, le-of-eq, eq-or-lt-of-le, mul-le-mul}
 use native.Mathlib.Omega.{arith}
 use lib.ListN.{length, getD, set, take, drop, length-set, List·getD-eq-default}
 use Rattle.lists.specs.Run.{nth}
-use Rattle.lists.specs.Splice.{splice}
 use Rattle.lists.proofs.Order.{lt-or-ge, same-or-not}
-use Rattle.lists.proofs.Splice.{length-splice, splice-before, splice-in, splice-after}
+use Rattle.lists.proofs.Splice.{splice, length-splice, splice-before, splice-in, splice-after}
 use Rattle.line.specs.Cells.{Table, Book, excessOn, keepCost, goCost, lesser, cellBy}
 use Rattle.line.specs.Ranges.{limit}
 use Rattle.line.proofs.Along.{excess-on-start}
