@@ -1,6 +1,6 @@
 -- The answer of read from a verdict.
 -- Assumes nothing.
-use mathlib.Core.Path.{_≡_, refl, ap, ap₂, _∙_}
+use mathlib.Core.Path.{_≡_, refl, ap, ap₂}
 use Prim.Native.Nat.{ℕ}
 use Rattle.lists.proofs.Order.{zero-not-one}
 use Rattle.rail.specs.declared.Refusal.{Refusal}
@@ -13,8 +13,8 @@ pub reading-refused : (v : Verdict) (m T : ℕ) {r : Refusal} → Refused r ≡ 
 reading-refused v m T e = ap (λ (u : Verdict). readingOf u m T) e
 
 pub reading-accepted : (v : Verdict) {m m′ T T′ : ℕ} → Fine ≡ v → m ≡ m′ → T ≡ T′ → Accepted m T ≡ readingOf v m′ T′
-reading-accepted v {m′ =
-    m′} {T′ = T′} e p q = ap₂ (λ (a b : ℕ). Accepted a b) p q ∙ ap (λ (u : Verdict). readingOf u m′ T′) e
+reading-accepted Fine e p q = ap₂ (λ (a b : ℕ). Accepted a b) p q
+reading-accepted (Refused r) e p q = zero-not-one (cc)
 
 -- an answer that accepts tells that the verdict is fine
 pub accepted-fine : (v : Verdict) (M P : ℕ) {m T : ℕ} → Accepted m T ≡ readingOf v M P → (v ≡ Fine) × (m ≡ M) × (T ≡ P)
