@@ -9,8 +9,8 @@ use rail::Train;
 use records::parts;
 use records::source;
 use records::source::byte;
-use records::source::double;
 use records::source::long;
+use records::source::number;
 use records::source::short;
 use records::sums;
 
@@ -96,15 +96,15 @@ fn ask(from: i32, asked: Asked, sheet: &mut [u8], before: &[u64], cells: &mut [u
 
 // The train and the delay of a report.
 fn reported(from: i32) -> Asked {
-    let train = Train(long(from));
-    let delay = long(from);
+    let train = Train(number(from));
+    let delay = number(from);
     Asked::Report(train, delay)
 }
 
 // A step that sets a cell; where there is no such place, it does nothing.
 fn put(from: i32, cells: &mut [u64]) {
     let place = short(from);
-    let value = double(from);
+    let value = long(from);
     if place < cells.len() {
         cells[place] = value;
     }

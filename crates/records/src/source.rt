@@ -25,7 +25,7 @@ pub fn short(from: i32) -> usize {
 }
 
 // A number of four bytes.
-pub fn long(from: i32) -> u32 {
+pub fn number(from: i32) -> u32 {
     let first = byte(from) % 256;
     let second = byte(from) % 256;
     let third = byte(from) % 256;
@@ -34,9 +34,9 @@ pub fn long(from: i32) -> u32 {
 }
 
 // A number of eight bytes.
-pub fn double(from: i32) -> u64 {
-    let high = long(from) as u64;
-    let low = long(from) as u64;
+pub fn long(from: i32) -> u64 {
+    let high = number(from) as u64;
+    let low = number(from) as u64;
     high * 4294967296 + low
 }
 
@@ -44,7 +44,7 @@ pub fn double(from: i32) -> u64 {
 pub fn list(from: i32, numbers: &mut [u32]) {
     let mut k = 0;
     while k < numbers.len() {
-        numbers[k] = long(from);
+        numbers[k] = number(from);
         k += 1;
     }
 }

@@ -1,7 +1,7 @@
 // Records of write.
 use records::parts;
 use records::source::list;
-use records::source::long;
+use records::source::number;
 use records::source::short;
 use records::sums;
 use writer::Writing;
@@ -88,8 +88,8 @@ fn write_lists(
 }
 
 pub fn record(from: i32) {
-    let m = long(from);
-    let period = long(from);
+    let m = number(from);
+    let period = number(from);
     let a = short(from);
     let b = short(from);
     let c = short(from);
