@@ -20,15 +20,16 @@ static const struct paper_line line_b = {
     .passengers[2][3] = 10, .passengers[2][4] = 2, .passengers[3][4] = 20,
 };
 
+/* Of c and d 01 says no more of the timetable than that the slack is 0. */
 static const struct paper_line line_c = {
     .m = 2, .period = 10,
-    .departure = {0, 10, 20}, .driving = {0, 10, 5}, .source = {0, 5, 0},
+    .departure = {0, 0, 10}, .driving = {0, 10, 10}, .source = {0, 5, 0},
     .passengers[1][2] = 0, .passengers[1][3] = 1, .passengers[2][3] = 1,
 };
 
 static const struct paper_line line_d = {
     .m = 2, .period = 1,
-    .departure = {0, 10, 20}, .driving = {0, 10, 5}, .source = {0, 0, 10},
+    .departure = {0, 0, 10}, .driving = {0, 10, 10}, .source = {0, 0, 10},
     .passengers[1][3] = 1,
 };
 
