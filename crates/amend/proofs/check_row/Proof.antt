@@ -21,6 +21,7 @@ leaves-requires c κs = search needs
 loop-holds : tie.Need-loop-holds Inv-loop μ-loop
 loop-holds c = rw (c .leaves .ensures) (search-first _ _ _)
 
+-- the column lies in the row
 cell-at-requires : tie.Need-cell-at-requires Inv-loop μ-loop
 cell-at-requires c κs =
     let start = c .before .before .before .before .pre in
@@ -48,6 +49,7 @@ loop-again c =
     search-next _ _ _ (asked .before .before .loop .inv) (omega arith) refl
     (miss _ _ _ _ _ (omega (arith, asked .cell-at .ensures)) refl)
 
+-- every cell passed
 returns-2 : tie.Need-returns-2 Inv-loop μ-loop
 unfolding rowVerdict
 returns-2 c = search-end _ _ _ (c .before .loop .inv) (omega arith)

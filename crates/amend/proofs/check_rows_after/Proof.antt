@@ -22,6 +22,7 @@ add-k c = search needs
 loop-holds : tie.Need-loop-holds Inv-loop μ-loop
 loop-holds c = (omega arith, search-first _ _ _)
 
+-- the row lies after the train's and is one of the line's
 check-row-requires : tie.Need-check-row-requires Inv-loop μ-loop
 check-row-requires c κs =
     let start = c .before .before .before .before .pre in
@@ -34,6 +35,7 @@ enum-told c = search needs
 after : (m i : ℕ) → m + 1 - (i + 1) ≡ m - i
 after m i = omega arith
 
+-- a row was refused: it is the first
 returns : tie.Need-returns Inv-loop μ-loop
 unfolding laterVerdict
 returns c =
@@ -51,6 +53,7 @@ add-k-2 c = search needs
 loop-less : tie.Need-loop-less Inv-loop μ-loop
 loop-less c = search needs
 
+-- it passed: the rows after it are still to be checked
 loop-again : tie.Need-loop-again Inv-loop μ-loop
 loop-again c =
     let turn = c .before .before in (
@@ -59,6 +62,7 @@ loop-again c =
           (turn .check-row .ensures),
     )
 
+-- every row passed
 returns-2 : tie.Need-returns-2 Inv-loop μ-loop
 unfolding laterVerdict
 returns-2 c = search-end _ _ _ (c .before .loop .inv .1) (omega arith) ∙ ap (firstOf _ _) (after _ _)

@@ -11,18 +11,21 @@ delays-requires c κs = search needs
 index-requires : tie.Need-index-requires
 index-requires c κs = search needs
 
+-- the field begins below bit 2 ^ 32
 mul-put : tie.Need-mul-put
 mul-put c =
     let at = c .before .before in
     rw (at .before .delays .ensures)
     (omega (arith, at .index .ensures, at .before .before .before .pre .within .near))
 
+-- and so it does with the place of the column added
 add-put : tie.Need-add-put
 add-put c =
     let at = c .before .before .before in
     rw (at .before .delays .ensures)
     (omega (arith, at .index .ensures, at .before .before .before .pre .within .near))
 
+-- the field lies in the sheet, and the delay fits it
 put-requires : tie.Need-put-requires
 put-requires c κs =
     let at = c .before .before .before in
@@ -32,6 +35,7 @@ put-requires c κs =
 same-length : tie.Need-same-length
 same-length c = search needs
 
+-- the field is that of the train
 returns : tie.Need-returns
 returns c =
     let called = c .before .before in

@@ -31,6 +31,7 @@ add-bit c = search needs
 bit-requires : tie.Need-bit-requires Inv-loop μ-loop
 bit-requires c κs = search needs
 
+-- a bit more stays below 2 ^ 32
 add-number : tie.Need-add-number Inv-loop μ-loop
 add-number c =
     let start = c .before .before .before .before .args in

@@ -70,6 +70,7 @@ put-bit-requires c κs = search needs
 loop-less : tie.Need-loop-less Inv-loop μ-loop
 loop-less c = search needs
 
+-- one bit more is put in front
 loop-again : tie.Need-loop-again Inv-loop μ-loop
 loop-again c =
     putting-next (c .before .before .before .before .before .loop .inv) (omega arith)

@@ -11,6 +11,7 @@ use Rattle.decoder.proofs.Held.{columns-room, columns-same}
 use Rattle.decoder.proofs.check_body.Statement.{statement}
 use Rattle.decoder.proofs.check_body.Tie as tie
 
+-- the columns have room for what m trains read
 check-lists-requires : tie.Need-check-lists-requires
 check-lists-requires c κs =
     let start = c .before .before .before .before .before .before .before .before .before .before in
@@ -30,6 +31,7 @@ numbers c =
     let start = start-of c in
     c .check-lists .ensures ∙ verdict-same _ _ (columns-same _ _ (start .pre .0) _ (start .pre .1))
 
+-- the numbers are refused
 returns : tie.Need-returns
 unfolding bodyVerdict
 returns c = then-stop _ _ (c .enum-told .given .1) (numbers (c .before .before))
@@ -40,6 +42,7 @@ enum-told-2 c = search needs
 check-filling-requires : tie.Need-check-filling-requires
 check-filling-requires c κs = search needs
 
+-- the numbers pass: the filling bits decide
 returns-2 : tie.Need-returns-2
 unfolding bodyVerdict
 returns-2 c =

@@ -13,30 +13,35 @@ use Rattle.decoder.proofs.check_filling.Tie as tie
 bits-of-requires : tie.Need-bits-of-requires
 bits-of-requires c κs = search needs
 
+-- eight times the bytes of 64 trains is small
 mul-field : tie.Need-mul-field
 mul-field c =
     let start = c .before .before in
     let b = bytes-bits (start .args .m) in
     omega (arith, bits-le (start .args .m) (start .pre .most), start .pre .long)
 
+-- the bits of the fields are no more than those of the bytes
 sub-field : tie.Need-sub-field
 sub-field c =
     let start = c .before .before in
     let b = bytes-bits (start .args .m) in
     omega (arith, start .pre .long, c .bits-of .ensures)
 
+-- what is left of the last byte is a field
 field-requires : tie.Need-field-requires
 field-requires c κs =
     let start = c .before .before in
     let b = bytes-bits (start .args .m) in
     omega (arith, bits-le (start .args .m) (start .pre .most), start .pre .long, c .bits-of .ensures)
 
+-- a filling bit is 1
 returns : tie.Need-returns
 unfolding fillingVerdict
 returns c =
     let called = c .before .before in
     rw (← called .bits-of .ensures ∙ ap bitsOf (called .before .before .pre .trains)) (hit _ _ _ _ (omega arith))
 
+-- none is
 returns-2 : tie.Need-returns-2
 unfolding fillingVerdict
 returns-2 c =

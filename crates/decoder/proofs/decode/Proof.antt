@@ -47,6 +47,7 @@ head-refused : (s : List ℕ) {r : Refusal} → ReadRefused r ≡ readingOf (hea
 unfolding sheetVerdict
 head-refused s e = then-stop _ _ refl (sym (refused-verdict (headVerdict s) _ _ e))
 
+-- a head that passed has the length that m demands
 decode-body-requires : tie.Need-decode-body-requires
 decode-body-requires c κs =
     let e = sym (c .before .head .given .1) ∙ c .before .before .before .read-head .ensures in
@@ -58,12 +59,14 @@ enum-known-head-2 c = search needs
 refused-requires : tie.Need-refused-requires
 refused-requires c κs = search needs
 
+-- the head passes: the body decides
 returns : tie.Need-returns
 returns c =
     let s = c .before .before .before .before .before .before .args .sheet .now in
     let e = sym (c .before .before .head .given .1) ∙ c .before .before .before .before .read-head .ensures in
     subst (λ (v : Verdict). Decoding v s (c .decode-body .result)) (body-decides s e) (c .decode-body .ensures)
 
+-- the head is refused
 returns-2 : tie.Need-returns-2
 returns-2 c =
     let e = sym (c .before .before .head2 .given .1) ∙ c .before .before .before .before .read-head .ensures in

@@ -18,6 +18,7 @@ enum-known-verdict c = search needs
 refused-requires : tie.Need-refused-requires
 refused-requires c κs = search needs
 
+-- the body is refused
 returns : tie.Need-returns
 returns c =
     let e = sym (c .before .before .verdict .given .1) ∙ c .before .before .before .before .check-body .ensures in
@@ -26,6 +27,7 @@ returns c =
 enum-told : tie.Need-enum-told
 enum-told c = search needs
 
+-- nothing is refused
 returns-2 : tie.Need-returns-2
 returns-2 c =
     let start = c .before .before .before .before .before in

@@ -49,6 +49,7 @@ add-k c = search needs
 loop-less : tie.Need-loop-less Inv-loop μ-loop
 loop-less c = search needs
 
+-- one place more holds its field
 loop-again : tie.Need-loop-again Inv-loop μ-loop
 unfolding entry
 loop-again c =
@@ -59,6 +60,7 @@ loop-again c =
 same-length : tie.Need-same-length Inv-loop μ-loop
 same-length c = c .before .loop .inv .1 .long
 
+-- all n are filled
 returns : tie.Need-returns Inv-loop μ-loop
 returns c =
     let e : c .before .loop .k ≡ c .before .before .before .before .args .n = omega arith in

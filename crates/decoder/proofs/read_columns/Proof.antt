@@ -15,6 +15,7 @@ use Rattle.decoder.proofs.read_columns.Tie as tie
 departures-requires : tie.Need-departures-requires
 departures-requires c κs = search needs
 
+-- the departures: 12 bits from bit 18
 read-times-requires : tie.Need-read-times-requires
 read-times-requires c κs =
     rw (c .departures .ensures) (train-room _ _ (c .before .before .pre) 18 12 (lit≤ tt) (lit≤ tt))
@@ -22,6 +23,7 @@ read-times-requires c κs =
 driving-requires : tie.Need-driving-requires
 driving-requires c κs = search needs
 
+-- the driving times: 10 bits from bit 30
 read-times-requires-2 : tie.Need-read-times-requires-2
 read-times-requires-2 c κs =
     rw (c .driving .ensures) (train-room _ _ (c .before .before .before .before .pre) 30 10 (lit≤ tt) (lit≤ tt))
@@ -29,6 +31,7 @@ read-times-requires-2 c κs =
 delays-requires : tie.Need-delays-requires
 delays-requires c κs = search needs
 
+-- the delays: 11 bits from bit 40
 read-times-requires-3 : tie.Need-read-times-requires-3
 read-times-requires-3 c κs =
     rw (c .delays .ensures)
@@ -40,6 +43,7 @@ passengers-requires c κs = search needs
 pairs-of-requires : tie.Need-pairs-of-requires
 pairs-of-requires c κs = search needs
 
+-- the passengers: 14 bits each, behind the trains
 read-passengers-requires : tie.Need-read-passengers-requires
 read-passengers-requires c κs =
     rw (c .before .passengers .ensures, c .pairs-of .ensures)
@@ -51,6 +55,7 @@ column-is : (s l : List ℕ) (size : ℕ) {n n′ : ℕ} {c c′ : Column} → l
     → l ≡ padded size n′ (λ (i : ℕ). entry s c′ (i - 1))
 column-is s l size e p q = e ∙ ap₂ (λ (k : ℕ) (x : Column). padded size k (λ (i : ℕ). entry s x (i - 1))) p q
 
+-- column by column, what was read is what the sheet has
 returns : tie.Need-returns
 returns c =
     let passengers = c .before .before in

@@ -16,6 +16,7 @@ use Rattle.decoder.proofs.read_head.Tie as tie
 abbrev entry-of : tie.After-check-ranges → tie.Start
 entry-of c = c .before .before .before .before .before
 
+-- the sheet is under 3 bytes
 returns : tie.Need-returns
 unfolding headVerdict
 returns c = reading-refused _ _ _ (hit _ _ _ _ (omega arith))
@@ -32,6 +33,7 @@ check-ranges-requires c κs = search needs
 enum-known-ranges : tie.Need-enum-known-ranges
 enum-known-ranges c = search needs
 
+-- m or T is refused
 returns-2 : tie.Need-returns-2
 unfolding headVerdict
 returns-2 c =
@@ -66,6 +68,7 @@ demanded : (c : tie.After-bytes-of) →
     c .bytes-of .result ≡ bytesOf (trainsOf (entry-of (c .before .before .before) .args .sheet .now))
 demanded c = c .bytes-of .ensures ∙ ap bytesOf (c .before .before .before .before .before .field .ensures)
 
+-- the sheet is shorter than m demands
 returns-3 : tie.Need-returns-3
 unfolding headVerdict
 returns-3 c =
@@ -75,6 +78,7 @@ returns-3 c =
     (then-pass _ _ _ (passed (c .before .before))
     (hit _ _ _ _ (omega arith))))
 
+-- it is longer
 returns-4 : tie.Need-returns-4
 unfolding headVerdict
 returns-4 c =
@@ -85,6 +89,7 @@ returns-4 c =
     (miss _ _ _ _ _ (omega arith)
     (hit _ _ _ _ (omega arith)))))
 
+-- nothing is refused
 returns-5 : tie.Need-returns-5
 unfolding headVerdict
 returns-5 c =

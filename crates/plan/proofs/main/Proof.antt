@@ -43,11 +43,13 @@ enum-known-answer-2 c = search needs
 print-total-requires : tie.Need-print-total-requires
 print-total-requires c κs = search needs
 
+-- an accepted sheet has a head to read m from
 field-requires : tie.Need-field-requires
 field-requires c κs =
     let planned = c .before .before .before .before .before .before .before in
     head-within _ (planned .plan .ensures) (c .before .before .answer2 .given .1)
 
+-- and m is at most 64
 print-trains-requires : tie.Need-print-trains-requires
 print-trains-requires c κs =
     let printed = c .before .before .before in

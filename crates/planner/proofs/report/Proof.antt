@@ -64,6 +64,7 @@ put-of c = c .before .before .before
 abbrev told-of : tie.After-put-delay → tie.After-answer2
 told-of c = c .before .before .before
 
+-- the train has a place in the column
 with-delay-requires : tie.Need-with-delay-requires
 with-delay-requires c κs =
     let ok = passed (told-of (c .before .before)) in

@@ -40,6 +40,7 @@ same-length-4 c = search needs
 abbrev entry-of : tie.After-check-lengths → tie.Start
 entry-of c = c .before .before .before .before .before .before .before .before .before .before
 
+-- a list has another length
 returns : tie.Need-returns
 unfolding readVerdict
 returns c =
@@ -74,6 +75,7 @@ right-lengths : (c : tie.After-enum-told) →
     (lists (start .departures .now) (start .driving .now) (start .delays .now) (start .passengers .now)) ≡ Fine
 right-lengths c = sym (c .before .before .check-lengths .ensures) ∙ c .enum-told .given .1
 
+-- the sheet is refused
 returns-2 : tie.Need-returns-2
 unfolding readVerdict
 returns-2 c =
@@ -92,6 +94,7 @@ right-sheet c =
     let accepted = sym (c .enum-told3 .given .1) ∙ c .before .before .decode .ensures .answer in
     accepted-fine (sheetVerdict _) _ _ accepted .0
 
+-- the lists are as long as the columns
 store-requires : tie.Need-store-requires
 store-requires c κs =
     let told = c .before .before .before .before .before in
@@ -111,6 +114,7 @@ same-length-11 c = search needs
 same-length-12 : tie.Need-same-length-12
 same-length-12 c = search needs
 
+-- nothing is refused: the lists hold the columns
 returns-3 : tie.Need-returns-3
 unfolding readVerdict
 returns-3 c =

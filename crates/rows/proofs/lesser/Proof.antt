@@ -10,11 +10,13 @@ use Rattle.rows.proofs.lesser.Tie as tie
 returns : tie.Need-returns
 returns c = search needs
 
+-- go is less
 returns-2 : tie.Need-returns-2
 returns-2 c =
     let start = c .before .before .args in
     (lesser-of-go-less (start .keep) (start .go) (start .excess) (omega arith) (omega arith), omega arith)
 
+-- keep is not more
 returns-3 : tie.Need-returns-3
 returns-3 c =
     let start = c .before .before .args in

@@ -22,6 +22,7 @@ entry-of c = c .before .before .before .before .before .before
 abbrev ranges-of : tie.After-check-lengths → tie.After-check-ranges
 ranges-of c = c .before .before .before .before
 
+-- the output buffer has another length
 returns : tie.Need-returns
 unfolding writeVerdict
 returns c = unlike _ _ _ _ (omega arith)
@@ -32,6 +33,7 @@ check-ranges-requires c κs = search needs
 enum-told : tie.Need-enum-told
 enum-told c = search needs
 
+-- m or T is refused
 returns-2 : tie.Need-returns-2
 unfolding writeVerdict
 returns-2 c =
@@ -65,6 +67,7 @@ lengths-are c =
     c .check-lengths .ensures
     ∙ ap (λ (k : ℕ). lengthsVerdict ListLength (start .m) k given) (c .before .pairs-of .ensures)
 
+-- a list has another length
 returns-3 : tie.Need-returns-3
 unfolding writeVerdict
 returns-3 c =
@@ -76,6 +79,7 @@ returns-3 c =
 enum-told-4 : tie.Need-enum-told-4
 enum-told-4 c = search needs
 
+-- the lists have the lengths that m demands
 check-numbers-requires : tie.Need-check-numbers-requires
 check-numbers-requires c κs =
     let checked = c .before .before in
@@ -83,6 +87,7 @@ check-numbers-requires c κs =
     let l = lengths-of-fine _ _ _ _ (sym (lengths-are checked) ∙ c .enum-told4 .given .1) in
     omega arith
 
+-- the lengths pass: the numbers decide
 returns-4 : tie.Need-returns-4
 unfolding writeVerdict
 returns-4 c =

@@ -30,6 +30,7 @@ given-at c =
     let a = c .args in
     given (a .m) (a .period) (lists (a .departures .now) (a .driving .now) (a .delays .now) (a .passengers .now))
 
+-- refused
 returns : tie.Need-returns
 returns c = write-refused _ _ (sym (c .before .verdict .given .1) ∙ c .before .before .before .check-write .ensures)
 
@@ -57,6 +58,7 @@ slice-relend-prefix-put-sheet c = room c
 slice-aggregate-put-sheet : tie.Need-slice-aggregate-put-sheet
 slice-aggregate-put-sheet c = sym (length-take-le _ _ (room (c .before)))
 
+-- the first bytes are as many as the sheet has
 put-sheet-requires : tie.Need-put-sheet-requires
 put-sheet-requires c κs =
     let accepts = accepts-of-fine _ _ (fine (c .before .before)) in
@@ -69,6 +71,7 @@ put-sheet-requires c κs =
 same-length : tie.Need-same-length
 same-length c = search needs
 
+-- accepted: the sheet stands first, the rest as it was
 returns-2 : tie.Need-returns-2
 returns-2 c =
     let called = c .before .before .before .before in

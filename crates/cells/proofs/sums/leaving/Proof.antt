@@ -24,6 +24,7 @@ held c =
     c .wide .ensures
     ∙ ap (λ (p : ℕ). getD (c .before .before .before .args .sums .now) p 0) (c .before .square .ensures .0)
 
+-- no more leave one train than board at all
 returns : tie.Need-returns
 returns c =
     let p = c .before .before .before .pre in

@@ -20,6 +20,7 @@ mul-result c = search needs
 shared-slice-read-result : tie.Need-shared-slice-read-result
 shared-slice-read-result c = search needs
 
+-- the place before the field, and a field is at most 10,000
 returns : tie.Need-returns
 unfolding pairIn
 returns c =

@@ -52,6 +52,7 @@ pair-requires c κs =
 add-sum : tie.Need-add-sum Inv-loop μ-loop
 add-sum c = omega (arith, c .before .before .loop .inv .small, c .pair .ensures .1, room (c .before))
 
+-- row and column are at most 64
 square-requires : tie.Need-square-requires Inv-loop μ-loop
 square-requires c κs =
     let turn = c .before in

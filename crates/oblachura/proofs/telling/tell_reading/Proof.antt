@@ -23,6 +23,7 @@ store-four-requires c κs = search needs
 same-length : tie.Need-same-length
 same-length c = search needs
 
+-- number, place, m and T are those of the answer
 returns : tie.Need-returns
 returns c =
     let called = c .before .before in

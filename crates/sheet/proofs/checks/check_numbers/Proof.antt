@@ -16,6 +16,7 @@ check-trains-requires c κs = search needs
 enum-told : tie.Need-enum-told
 enum-told c = search needs
 
+-- a train is refused
 returns : tie.Need-returns
 unfolding numbersVerdict
 returns c = then-stop _ _ (c .enum-told .given .1) (c .before .before .check-trains .ensures)
@@ -26,12 +27,14 @@ enum-told-2 c = search needs
 pairs-of-requires : tie.Need-pairs-of-requires
 pairs-of-requires c κs = search needs
 
+-- the list has room for the fields of m trains
 check-passengers-requires : tie.Need-check-passengers-requires
 check-passengers-requires c κs =
     let start = c .before .before .before .before .before .before .before .before in
     let room = start .pre in
     omega (arith, c .pairs-of .ensures, room .passengers, pairs-le (start .args .m) (room .trains .most))
 
+-- the trains pass: the passengers decide
 returns-2 : tie.Need-returns-2
 unfolding numbersVerdict
 returns-2 c =

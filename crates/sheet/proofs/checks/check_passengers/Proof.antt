@@ -32,6 +32,7 @@ shared-slice-read-if1 c = search needs
 cast-t9 : tie.Need-cast-t9 Inv-loop μ-loop
 cast-t9 c = search needs
 
+-- a field was refused: it is the first
 returns : tie.Need-returns Inv-loop μ-loop
 unfolding passengersVerdict
 returns c = search-stop _ _ _ (c .before .before .before .loop .inv) (omega arith) refl (hit _ _ _ _ (omega arith))
@@ -42,11 +43,13 @@ add-f c = search needs
 loop-less : tie.Need-loop-less Inv-loop μ-loop
 loop-less c = search needs
 
+-- it passed: the fields after it are still to be checked
 loop-again : tie.Need-loop-again Inv-loop μ-loop
 unfolding passengersVerdict
 loop-again c =
     search-next _ _ _ (c .before .before .before .loop .inv) (omega arith) refl (miss _ _ _ _ _ (omega arith) refl)
 
+-- every field passed
 returns-2 : tie.Need-returns-2 Inv-loop μ-loop
 returns-2 c = search-end _ _ _ (c .before .loop .inv) (omega arith)
 

@@ -17,6 +17,7 @@ mul-if1 c = search needs
 shared-slice-read-if1 : tie.Need-shared-slice-read-if1
 shared-slice-read-if1 c = search needs
 
+-- the departure
 returns : tie.Need-returns
 unfolding trainVerdict
 returns c = rw (← c .before .before .index .ensures) (hit _ _ _ _ (omega arith))
@@ -27,6 +28,7 @@ mul-if2 c = search needs
 shared-slice-read-if2 : tie.Need-shared-slice-read-if2
 shared-slice-read-if2 c = search needs
 
+-- the driving time
 returns-2 : tie.Need-returns-2
 unfolding trainVerdict
 returns-2 c =
@@ -40,6 +42,7 @@ mul-if3 c = search needs
 shared-slice-read-if3 : tie.Need-shared-slice-read-if3
 shared-slice-read-if3 c = search needs
 
+-- the source delay
 returns-3 : tie.Need-returns-3
 unfolding trainVerdict
 returns-3 c =
@@ -60,6 +63,7 @@ cast-departure c = search needs
 earliest-requires : tie.Need-earliest-requires
 earliest-requires c κs = search needs
 
+-- the slack
 returns-4 : tie.Need-returns-4
 unfolding trainVerdict
 returns-4 c =
@@ -69,6 +73,7 @@ returns-4 c =
     (miss _ _ _ _ _ (omega arith)
     (hit _ _ _ _ (omega arith)))))
 
+-- nothing is refused
 returns-5 : tie.Need-returns-5
 unfolding trainVerdict
 returns-5 c =

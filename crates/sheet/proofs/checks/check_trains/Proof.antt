@@ -25,6 +25,7 @@ check-train-requires c κs = search needs
 enum-told : tie.Need-enum-told Inv-loop μ-loop
 enum-told c = search needs
 
+-- a train was refused: it is the first
 returns : tie.Need-returns Inv-loop μ-loop
 returns c =
     let turn = c .before .before in
@@ -40,12 +41,14 @@ add-i c = search needs
 loop-less : tie.Need-loop-less Inv-loop μ-loop
 loop-less c = search needs
 
+-- it passed: the trains after it are still to be checked
 loop-again : tie.Need-loop-again Inv-loop μ-loop
 loop-again c =
     let turn = c .before .before in
     search-next _ _ _ (turn .before .before .loop .inv) (omega arith) (c .enum-told2 .given .1)
     (turn .check-train .ensures)
 
+-- every train passed
 returns-2 : tie.Need-returns-2 Inv-loop μ-loop
 returns-2 c = search-end _ _ _ (c .before .loop .inv) (omega arith)
 

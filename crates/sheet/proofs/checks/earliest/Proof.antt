@@ -36,11 +36,13 @@ shared-slice-read-result-2 c = search needs
 cast-result-2 : tie.Need-cast-result-2
 cast-result-2 c = omega (arith, c .shared-slice-known4 .given (c .before .before .index .result))
 
+-- two numbers below 2 ^ 32
 add-result : tie.Need-add-result
 add-result c =
     let k = c .before .before .index .result in
     omega (arith, c .before .shared-slice-known3 .given k, c .shared-slice-known4 .given k)
 
+-- the feeder stands one place before the train
 returns : tie.Need-returns
 unfolding earliestOf
 returns c =
@@ -49,6 +51,7 @@ returns c =
     let e : called .index .result ≡ i - 1 - 1 = omega arith in
     rw e (sym (below-yes _ _ (omega arith)))
 
+-- train 1 has none
 returns-2 : tie.Need-returns-2
 unfolding earliestOf
 returns-2 c = sym (below-no _ _ (omega arith))

@@ -47,11 +47,13 @@ sub-result-2 c = search needs
 cast-result : tie.Need-cast-result
 cast-result c = search needs
 
+-- the fields of 64 trains are few
 add-result-2 : tie.Need-add-result-2
 add-result-2 c =
     let at-index = c .before .before in
     omega (arith, before-fields at-index, at-index .before .pre .1 .most, at-index .before .pre .0)
 
+-- half the product is what the earlier stations have
 returns : tie.Need-returns
 returns c =
     let at-index = c .before .before in

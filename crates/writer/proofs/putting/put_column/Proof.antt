@@ -43,6 +43,7 @@ mul-put-2 c = search needs
 shared-slice-read-put : tie.Need-shared-slice-read-put Inv-loop μ-loop
 shared-slice-read-put c = search needs
 
+-- the place lies in the sheet, and its number fits the width
 put-requires : tie.Need-put-requires Inv-loop μ-loop
 put-requires c κs =
     let turn = c .before in
@@ -55,6 +56,7 @@ add-k c = search needs
 loop-less : tie.Need-loop-less Inv-loop μ-loop
 loop-less c = search needs
 
+-- one place more is put, and the fields of a column do not overlap
 loop-again : tie.Need-loop-again Inv-loop μ-loop
 loop-again c =
     let at-loop = c .before .before .before .before .before .before in
@@ -64,6 +66,7 @@ loop-again c =
 same-length : tie.Need-same-length Inv-loop μ-loop
 same-length c = c .before .loop .inv .1 .long
 
+-- all n are put
 returns : tie.Need-returns Inv-loop μ-loop
 returns c =
     let e : c .before .loop .k ≡ c .before .before .before .before .args .n = omega arith in

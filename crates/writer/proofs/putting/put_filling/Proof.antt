@@ -10,18 +10,21 @@ use Rattle.writer.proofs.putting.put_filling.Tie as tie
 bits-of-requires : tie.Need-bits-of-requires
 bits-of-requires c κs = search needs
 
+-- eight times the bytes of 64 trains is small
 mul-put : tie.Need-mul-put
 mul-put c =
     let start = c .before .before .before in
     let b = bytes-bits (start .args .m) in
     omega (arith, bits-le (start .args .m) (start .pre .0))
 
+-- the bits of the fields are no more than those of the bytes
 sub-put : tie.Need-sub-put
 sub-put c =
     let start = c .before .before .before in
     let b = bytes-bits (start .args .m) in
     omega (arith, c .before .bits-of .ensures)
 
+-- what is left of the last byte is a field, and 0 fits it
 put-requires : tie.Need-put-requires
 put-requires c κs =
     let start = c .before .before .before in
@@ -32,6 +35,7 @@ put-requires c κs =
 same-length : tie.Need-same-length
 same-length c = search needs
 
+-- the filling begins behind the last field
 returns : tie.Need-returns
 returns c =
     let called = c .before .before .before in

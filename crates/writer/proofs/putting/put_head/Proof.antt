@@ -17,6 +17,7 @@ put-requires-2 c κs = search needs
 same-length : tie.Need-same-length
 same-length c = search needs
 
+-- m stays under T, and T holds
 returns : tie.Need-returns
 returns c =
     let period = c .before .before .put2 .ensures in

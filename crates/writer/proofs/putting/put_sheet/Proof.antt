@@ -16,6 +16,7 @@ head-of c = c .before .before .before .before
 put-head-requires : tie.Need-put-head-requires
 put-head-requires c κs = head-room _ _ _ (c .before .before .before .before .before .before .pre) refl
 
+-- the head left the length as it was
 put-times-requires : tie.Need-put-times-requires
 put-times-requires c κs =
     let head = c .before .before .before in
@@ -24,6 +25,7 @@ put-times-requires c κs =
 passengers-requires : tie.Need-passengers-requires
 passengers-requires c κs = search needs
 
+-- and so did the times
 put-column-requires : tie.Need-put-column-requires
 put-column-requires c κs =
     let times = c .before .before .before .before in
@@ -37,6 +39,7 @@ put-filling-requires c κs = search needs
 same-length : tie.Need-same-length
 same-length c = search needs
 
+-- the steps, one after the other, leave the sheet
 returns : tie.Need-returns
 returns c =
     let filling = c .before .before in

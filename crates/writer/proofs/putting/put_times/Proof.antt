@@ -18,6 +18,7 @@ entry-of c = c .before .before .before .before .before .before .before
 abbrev first-of : tie.After-put-column2 → tie.After-put-column
 first-of c = c .before .before .before .before .before
 
+-- the departures
 put-column-requires : tie.Need-put-column-requires
 put-column-requires c κs =
     let start = c .before .before .before .before .before .before in
@@ -37,6 +38,7 @@ driving-put : (c : tie.After-put-column2) →
     ColumnPut (first-of c .put-column .last .0) drivingColumn (start .m) (start .driving .now) (c .put-column2 .last .0)
 driving-put c = rw (c .before .driving .ensures) at (c .put-column2 .ensures)
 
+-- the driving times
 put-column-requires-2 : tie.Need-put-column-requires-2
 put-column-requires-2 c κs =
     let first = c .before .before .before .before in
@@ -45,6 +47,7 @@ put-column-requires-2 c κs =
 delays-requires : tie.Need-delays-requires
 delays-requires c κs = search needs
 
+-- the source delays
 put-column-requires-3 : tie.Need-put-column-requires-3
 put-column-requires-3 c κs =
     let second = c .before .before .before .before in
@@ -55,6 +58,7 @@ put-column-requires-3 c κs =
 same-length : tie.Need-same-length
 same-length c = search needs
 
+-- later columns leave the earlier ones as they are
 returns : tie.Need-returns
 returns c =
     let third = c .before .before in
