@@ -5,11 +5,14 @@ use mathlib.Core.Path.{refl, sym, _∙_}
 use native.Mathlib.Omega.{arith}
 use Rattle.rail.proofs.Checks.{refused-not-fine}
 use Rattle.sheet.specs.Format.{trainsOf}
-use Rattle.sheet.specs.Numbers.{numbersOf}
-use Rattle.sheet.specs.Accepted.{AcceptedSheet}
+use Rattle.sheet.specs.Numbers.{numbersOf, numbersIn}
+use Rattle.sheet.specs.Accepted.{InRange, AcceptedSheet, SameNumbers}
 use Rattle.sheet.proofs.Amend.{replaced-accepted}
+use Rattle.decoder.specs.declared.Columns.{Columns}
+use Rattle.decoder.specs.Decode.{listsOf}
 use Rattle.decoder.proofs.Answers.{refused-verdict}
 use Rattle.amend.specs.Checks.{Reportable}
+use Rattle.amend.specs.Steps.{withDelayIn}
 use Rattle.amend.proofs.Amended.{amended-lengths, delay-room}
 use Rattle.settle.specs.Buffers.{Buffers, buffers, RightLengths}
 use Rattle.planner.specs.Report.{reportVerdict}
@@ -64,6 +67,29 @@ put-of c = c .before .before .before
 abbrev told-of : tie.After-put-delay → tie.After-answer2
 told-of c = c .before .before .before
 
+-- the columns with the new delay
+abbrev amended-columns : tie.After-put-delay → Columns
+amended-columns c =
+    let checked = told-of c .before .before in
+    let start = start-of checked .args in
+    withDelayIn (checked .check-report .result .columns) (start .train .0) (start .delay)
+
+-- they hold the numbers of the sheet as it then stands
+amended : (c : tie.After-put-delay) →
+    let read = told-of c .answer2 .given .0 in
+    SameNumbers (numbersIn (read .0) (read .1 .0) (listsOf (amended-columns c))) (numbersOf (c .put-delay .last .0))
+amended c =
+    let told = told-of c in
+    let ok = passed told in
+    amended-taken _ _ _ _ _ (told .before .before .check-report .ensures) (told .answer2 .given .1) (ok .1) _ _ _
+    (ok .2 .least) (ok .2 .most) (c .put-delay .ensures)
+
+-- which are in range
+in-range : (c : tie.After-put-delay) → InRange (numbersOf (c .put-delay .last .0))
+in-range c =
+    let ok = passed (told-of c) in
+    replaced-accepted _ _ _ _ (ok .1) (ok .2 .least) (ok .2 .most) (c .put-delay .ensures) (ok .2 .delay) .numbers
+
 -- the train has a place in the column
 with-delay-requires : tie.Need-with-delay-requires
 with-delay-requires c κs =
@@ -77,7 +103,6 @@ settle-numbers-requires c κs =
     let told = told-of (put-of columns) in
     let checked = told .before .before .check-report .ensures in
     let answer = told .answer2 .given .1 in
-    let put = put-of columns .put-delay .ensures in
     let ok = passed told in
     let report = ok .2 in
     let trains = taken-trains _ _ _ _ _ checked answer in (
@@ -87,10 +112,8 @@ settle-numbers-requires c κs =
         later = rw trains (report .later);
       },
       rw (columns .with-delay .ensures)
-          (sound-of-same _ _ _ (numbersOf _)
-          (amended-lengths _ _ _ (taken-lengths _ _ _ _ _ checked answer))
-          (amended-taken _ _ _ _ _ checked answer (ok .1) _ _ _ (report .least) (report .most) put)
-          (replaced-accepted _ _ _ _ (ok .1) (report .least) (report .most) put (report .delay) .numbers)),
+          (sound-of-same _ _ _ (numbersOf _) (amended-lengths _ _ _ (taken-lengths _ _ _ _ _ checked answer))
+          (amended (put-of columns)) (in-range (put-of columns))),
     )
 
 same-length : tie.Need-same-length
@@ -139,21 +162,17 @@ unfolding reportVerdict
 returns-2 c =
     let work = c .before .before .before .before .before .before in
     let columns = work .before .before .before .before in
-    let put = put-of columns .put-delay .ensures in
-    let told = told-of (put-of columns) in
-    let checked = told .before .before .check-report .ensures in
-    let answer = told .answer2 .given .1 in
+    let put = put-of columns in
+    let told = told-of put in
     let lent = lent-to (told .before .before) in
-    let ok = passed told in
-    let fine = taken-fine _ _ _ _ _ checked answer in
-    let same = amended-taken _ _ _ _ _ checked answer (ok .1) _ _ _ (ok .2 .least) (ok .2 .most) put in
+    let fine = taken-fine _ _ _ _ _ (told .before .before .check-report .ensures) (told .answer2 .given .1) in
     let settled = rw (columns .with-delay .ensures) at (work .settle-numbers .ensures) in
     record {
       outcome = outcome-accepted _ _ lent _ _ (sym fine) refl
           (record {
             answer = refl;
-            sheet = put;
-            settled = settled-of-same _ (numbersOf _) _ lent _ _ same settled;
+            sheet = put .put-delay .ensures;
+            settled = settled-of-same _ (numbersOf _) _ lent _ _ (amended put) settled;
           });
       kept = λ r e. refused-not-fine (sym e ∙ fine);
     }
