@@ -18,7 +18,6 @@ use Rattle.sheet.specs.Accepted.{Lengths, AcceptedSheet, SameNumbers, SheetOf}
 use Rattle.sheet.proofs.Lengths.{pairs-le}
 use Rattle.sheet.proofs.Facts.{fine-of-lengths, accepted-of-fine, fine-of-accepted}
 use Rattle.sheet.proofs.Meaning.{same-sym, in-range-same, sheet-of-one, sheet-of-accepted, accepted-sheet-of}
-use Rattle.sheet.proofs.Amend.{replaced-numbers, replaced-accepted}
 use Rattle.decoder.specs.Answers.{readingOf}
 use Rattle.reader.specs.Read.{readVerdict, Read}
 use Rattle.decoder.proofs.Answers.{accepted-fine}
@@ -31,7 +30,7 @@ use Rattle.decoder.specs.declared.Reading.{Reading}
 use Rattle.decoder.specs.declared.Reading.the-variants.{Accepted as ReadAccepted}
 use Rattle.writer.specs.declared.Writing.{Writing}
 use Rattle.writer.specs.declared.Writing.the-variants.{Accepted as WriteAccepted}
-use Rattle.meaning.specs.OneMeaning.{givenFrom, ReadThenWrite, WriteThenRead, EqualFields, DelayStays}
+use Rattle.meaning.specs.OneMeaning.{givenFrom, ReadThenWrite, WriteThenRead, EqualFields}
 
 pub equal-fields : EqualFields
 equal-fields s t bs bt fs ft same =
@@ -39,11 +38,6 @@ equal-fields s t bs bt fs ft same =
     sheet-of-one (numbersOf t) s t
     (record { bytes = bs; long = h .long ∙ ap bytesOf (same .trains); numbers = same; filling = h .filling })
     (sheet-of-accepted t bt (accepted-of-fine t ft))
-
-pub delay-stays : DelayStays
-delay-stays s t i v fine least most small put =
-    let ok = accepted-of-fine s fine in
-    (fine-of-accepted t (replaced-accepted s t i v ok least most put small), replaced-numbers s t i v ok least most put)
 
 -- ---- read, then write
 

@@ -3,19 +3,17 @@
 --   ReadThenWrite   what read gives of an accepted sheet, write accepts, and it writes that sheet
 --   WriteThenRead   what write wrote, read accepts, and it gives the same numbers
 --   EqualFields     two accepted sheets with equal fields are equal
---   DelayStays      an accepted sheet with one source delay replaced by 0 to 1,440 is accepted, and every other field
---                   is as it was
 -- Assumes nothing.
-use Prim.Native.Nat.{ℕ, _≤_}
+use Prim.Native.Nat.{ℕ}
 use mathlib.Core.Path.{_≡_}
 use mathlib.Core.List.{List}
 use lib.ListN.{length, take}
 use Rattle.rail.specs.declared.Verdict.the-variants.{Fine}
 use Rattle.bits.specs.Field.{Bytes}
-use Rattle.sheet.specs.Format.{trainsOf, pairsOf}
+use Rattle.sheet.specs.Format.{pairsOf}
 use Rattle.sheet.specs.Numbers.{Lists, lists, numbersOf}
 use Rattle.sheet.specs.Checks.{sheetVerdict}
-use Rattle.sheet.specs.Accepted.{Lengths, SameNumbers, withDelay, DelayReplaced}
+use Rattle.sheet.specs.Accepted.{Lengths, SameNumbers}
 use Rattle.decoder.specs.declared.Reading.{Reading}
 use Rattle.decoder.specs.declared.Reading.the-variants.{Accepted as ReadAccepted}
 use Rattle.reader.specs.Read.{Read}
@@ -55,13 +53,3 @@ EqualFields =
     → sheetVerdict t ≡ Fine
     → SameNumbers (numbersOf s) (numbersOf t)
     → s ≡ t
-
-abbrev pub DelayStays : Type 0
-DelayStays =
-    (s t : List ℕ) (i v : ℕ)
-    → sheetVerdict s ≡ Fine
-    → 1 ≤ i
-    → i ≤ trainsOf s
-    → v ≤ 1440
-    → DelayReplaced s i v t
-    → (sheetVerdict t ≡ Fine) × SameNumbers (numbersOf t) (withDelay (numbersOf s) i v)
