@@ -44,7 +44,7 @@ WARN = -Wall -Wextra -Werror
 FAST = -O3 -falign-functions=64
 DESK = $(BUILT)/desk
 DISPLAY = $(CC_X86) -std=c11 -D_POSIX_C_SOURCE=200809L -O2 $(WARN) -Wshadow -Wconversion -Iinclude
-REFUSING = tests/display/refusing/refusing.c -Wl,--wrap=oblachura_report
+REFUSING = tests/display/refusing/refusing.c -Wl,--wrap=oblachura_report,--wrap=oblachura_plan
 
 RT = @command -v rt > /dev/null || { echo 'rt, the command of the Rattle toolchain, is not on the PATH' >&2; exit 1; }
 

@@ -2,7 +2,6 @@
 #ifndef BOARD_H
 #define BOARD_H
 
-#include "command.h"
 #include "frame.h"
 #include "sheet.h"
 

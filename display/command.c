@@ -21,6 +21,7 @@ static struct command report_of(struct text train_word, struct text delay_word)
 struct command command_of(struct text line)
 {
     struct text first, second, third;
+    line = without_return(line);
     if (!next_word(&line, &first))
         return malformed("the line is empty");
     if (!next_word(&line, &second)) {

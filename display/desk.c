@@ -1,10 +1,13 @@
 /* The desk's reference display: a board over the archive, and sheets as text. */
 #include "board.h"
+#include "command.h"
 #include "input.h"
 #include "listing.h"
 #include "output.h"
+#include "words.h"
 
 #include <errno.h>
+#include <signal.h>
 #include <stdio.h>
 #include <string.h>
 
@@ -30,22 +33,26 @@ static const char help[] = USAGE
     "                      names the trains and the pairs of stations in comments\n"
     "\n"
     "Status: 0 if all went well; 1 if pack or unpack refuses, if something cannot\n"
-    "be read or written, or if the board's input ends without quit; 2 on a wrong\n"
-    "call.\n";
+    "be read or written, or if the board ends without quit; 2 on a wrong call.\n";
 
-static int fail(const char *command, const char *what)
+/* One line on standard error; the name is what the command was given, or NULL. */
+static int fail(const char *command, const char *name, const char *what)
 {
-    fprintf(stderr, "desk %s: %s\n", command, what);
+    char shown[201] = "";
+    if (name != NULL)
+        printable(shown, sizeof shown - 1, (struct text){name, strlen(name)});
+    fprintf(stderr, "desk %s: %s%s%s\n", command, shown, name == NULL ? "" : ": ", what);
     return 1;
 }
 
-static int fail_on(const char *command, const char *name)
+static int fail_to_read(const char *command, const char *name)
 {
-    char shown[201];
-    const char *why = strerror(errno);
-    printable(shown, sizeof shown - 1, (struct text){name, strlen(name)});
-    fprintf(stderr, "desk %s: %s: %s\n", command, shown, why);
-    return 1;
+    return fail(command, name == NULL ? "standard input" : name, strerror(errno));
+}
+
+static int fail_to_write(const char *command)
+{
+    return fail(command, "standard output", strerror(errno));
 }
 
 /* Reads a file, or standard input without a name, up to `room` bytes. */
@@ -61,11 +68,6 @@ static bool read_file(const char *name, void *bytes, size_t room, size_t *count)
         fclose(file);
     errno = error;
     return fine;
-}
-
-static const char *name_or_input(const char *name)
-{
-    return name == NULL ? "standard input" : name;
 }
 
 /* ---- the board ---- */
@@ -134,28 +136,36 @@ static bool paint_closing(struct screen screen, const char *title, enum state st
     return screen_paint(screen, &page, true);
 }
 
+/* Shows the board and takes commands until one ends it. */
+static int keep_board(struct board *board, const char *title, struct input *input)
+{
+    struct screen screen = screen_of_output();
+    enum state state = BOARD_OPEN;
+    while (state == BOARD_OPEN) {
+        if (!paint(screen, title, board))
+            return fail_to_write("board");
+        state = take_line(board, input);
+    }
+    if (!paint_closing(screen, title, state))
+        return fail_to_write("board");
+    return state == BOARD_QUIT ? 0 : 1;
+}
+
 static int run_board(const char *name)
 {
     static struct board board;
     static struct input input;
     struct sheet *sheet = &board.sheet;
-    if (!read_file(name, sheet->bytes, sizeof sheet->bytes, &sheet->count))
-        return fail_on("board", name);
     char title[81];
+    if (!read_file(name, sheet->bytes, sizeof sheet->bytes, &sheet->count))
+        return fail_to_read("board", name);
     printable(title, sizeof title - 1, (struct text){name, strlen(name)});
-    struct screen screen = screen_of_output();
-    input_open(&input);
     snprintf(board.news.command, sizeof board.news.command, "plan");
     board_plan(&board);
-    enum state state = BOARD_OPEN;
-    while (state == BOARD_OPEN) {
-        if (!paint(screen, title, &board))
-            return fail_on("board", "standard output");
-        state = take_line(&board, &input);
-    }
-    if (!paint_closing(screen, title, state))
-        return fail_on("board", "standard output");
-    return state == BOARD_QUIT ? 0 : 1;
+    input_open(&input);
+    int status = keep_board(&board, title, &input);
+    input_close(&input);
+    return status;
 }
 
 /* ---- sheets as text ---- */
@@ -164,15 +174,15 @@ static int pack(const char *name)
 {
     static char bytes[LISTING_ROOM + 1];
     struct text text = {bytes, 0};
-    struct sheet sheet;
+    static struct sheet sheet;
     char fault[FAULT_ROOM];
     if (!read_file(name, bytes, sizeof bytes, &text.count))
-        return fail_on("pack", name_or_input(name));
+        return fail_to_read("pack", name);
     if (text.count > LISTING_ROOM)
-        return fail("pack", "the text is over 1048576 bytes");
+        return fail("pack", name, "the text is over 1048576 bytes");
     if (!sheet_of_listing(text, &sheet, fault))
-        return fail("pack", fault);
-    return output_bytes(sheet.bytes, sheet.count) ? 0 : fail_on("pack", "standard output");
+        return fail("pack", name, fault);
+    return output_bytes(sheet.bytes, sheet.count) ? 0 : fail_to_write("pack");
 }
 
 static int unpack(const char *name)
@@ -182,14 +192,14 @@ static int unpack(const char *name)
     struct line line;
     struct refusal refusal;
     if (!read_file(name, sheet.bytes, sizeof sheet.bytes, &sheet.count))
-        return fail_on("unpack", name_or_input(name));
+        return fail_to_read("unpack", name);
     if (!sheet_read(&sheet, &line, &refusal)) {
         char words[REFUSAL_ROOM];
         refusal_words(words, &refusal);
-        return fail("unpack", words);
+        return fail("unpack", name, words);
     }
     listing_of(&page, &line);
-    return output_bytes(page.text, page.used) ? 0 : fail_on("unpack", "standard output");
+    return output_bytes(page.text, page.used) ? 0 : fail_to_write("unpack");
 }
 
 int main(int count, char **words)
@@ -204,7 +214,7 @@ int main(int count, char **words)
     if ((count == 2 || count == 3) && strcmp(command, "unpack") == 0)
         return unpack(name);
     if (count == 2 && strcmp(command, "help") == 0)
-        return output_bytes(help, sizeof help - 1) ? 0 : fail_on("help", "standard output");
+        return output_bytes(help, sizeof help - 1) ? 0 : fail_to_write("help");
     fputs(USAGE, stderr);
     return 2;
 }

@@ -4,7 +4,6 @@
 
 #include "oblachura.h"
 #include "page.h"
-#include "words.h"
 
 #include <stdbool.h>
 

@@ -6,42 +6,67 @@
 #include <sys/select.h>
 #include <unistd.h>
 
-static const int stops[] = {SIGINT, SIGTERM, SIGHUP, SIGQUIT};
-#define STOPS (sizeof stops / sizeof stops[0])
+/* All that would end the program and can be caught. */
+static const int endings[] = {SIGINT, SIGTERM, SIGHUP, SIGQUIT, SIGALRM, SIGUSR1, SIGUSR2,
+                              SIGVTALRM, SIGPROF, SIGXCPU};
+static const int stops[] = {SIGTSTP, SIGTTIN, SIGTTOU};
+#define COUNT(list) (sizeof(list) / sizeof(list)[0])
 
 static volatile sig_atomic_t stopped;
 
-static void stop(int signal)
+static void note(int signal)
 {
     (void)signal;
     stopped = 1;
 }
 
-/* The signals stay blocked but while a read waits: none is lost between a look at `stopped` and
- * the wait. */
-void input_open(struct input *input)
+static void catch_signals(void)
 {
-    sigset_t blocked;
-    sigemptyset(&blocked);
-    for (size_t i = 0; i < STOPS; i++)
-        sigaddset(&blocked, stops[i]);
-    sigprocmask(SIG_BLOCK, &blocked, &input->calm);
-    struct sigaction action = {.sa_handler = stop};
+    struct sigaction action = {.sa_handler = note, .sa_flags = (int)SA_RESETHAND};
     sigemptyset(&action.sa_mask);
-    for (size_t i = 0; i < STOPS; i++)
-        sigaction(stops[i], &action, NULL);
-    signal(SIGTSTP, SIG_IGN);
-    input->first = input->count = 0;
-    input->within_long = input->ended = false;
+    for (size_t i = 0; i < COUNT(endings); i++)
+        sigaction(endings[i], &action, NULL);
+    for (size_t i = 0; i < COUNT(stops); i++)
+        signal(stops[i], SIG_IGN);
 }
 
-/* Waits for input; -1 with EINTR if a signal came first. */
-static int wait_for_input(const struct input *input)
+void input_open(struct input *input)
 {
+    catch_signals();
+    input->first = input->count = 0;
+    input->within_long = input->ended = false;
+    input->terminal = tcgetattr(STDIN_FILENO, &input->modes) == 0;
+    if (input->terminal) {
+        struct termios modes = input->modes;
+        modes.c_lflag |= NOFLSH;
+        tcsetattr(STDIN_FILENO, TCSANOW, &modes);
+    }
+}
+
+void input_close(const struct input *input)
+{
+    if (input->terminal)
+        tcsetattr(STDIN_FILENO, TCSANOW, &input->modes);
+}
+
+/* Waits for input; false if a signal came first, or if that failed. The signals are let in only
+ * while it waits: none comes between the look at `stopped` and the wait. */
+static bool wait_for_input(void)
+{
+    sigset_t closed, open;
+    sigemptyset(&closed);
+    for (size_t i = 0; i < COUNT(endings); i++)
+        sigaddset(&closed, endings[i]);
+    sigprocmask(SIG_BLOCK, &closed, &open);
     fd_set in;
     FD_ZERO(&in);
     FD_SET(STDIN_FILENO, &in);
-    return pselect(STDIN_FILENO + 1, &in, NULL, NULL, NULL, &input->calm);
+    errno = EINTR;
+    bool ready = !stopped && pselect(STDIN_FILENO + 1, &in, NULL, NULL, NULL, &open) > 0;
+    int error = errno;
+    sigprocmask(SIG_SETMASK, &open, NULL);
+    errno = error;
+    return ready;
 }
 
 /* Reads on behind what is there; false if that failed or was stopped. */
@@ -49,9 +74,10 @@ static bool read_on(struct input *input)
 {
     memmove(input->bytes, input->bytes + input->first, input->count);
     input->first = 0;
-    ssize_t got = wait_for_input(input);
-    if (got >= 0)
-        got = read(STDIN_FILENO, input->bytes + input->count, INPUT_WIDTH + 1 - input->count);
+    if (!wait_for_input())
+        return false;
+    ssize_t got = read(STDIN_FILENO, input->bytes + input->count,
+                       INPUT_WIDTH + 1 - input->count);
     if (got < 0)
         return false;
     input->count += (size_t)got;
@@ -91,6 +117,8 @@ static enum input_next give(struct input *input, struct text *line, enum input_n
 enum input_next input_line(struct input *input, struct text *line)
 {
     for (;;) {
+        if (stopped)
+            return INPUT_STOPPED;
         if (input->within_long)
             pass_over_rest(input);
         size_t length = line_length(input);
@@ -100,11 +128,7 @@ enum input_next input_line(struct input *input, struct text *line)
             return give(input, line, INPUT_LONG);
         if (input->ended)
             return give(input, line, length > 0 ? INPUT_CUT : INPUT_END);
-        if (read_on(input))
-            continue;
-        if (stopped)
-            return INPUT_STOPPED;
-        if (errno != EINTR && errno != EAGAIN)
+        if (!read_on(input) && errno != EINTR && errno != EAGAIN)
             return INPUT_FAILED;
     }
 }

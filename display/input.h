@@ -5,6 +5,7 @@
 #include "words.h"
 
 #include <signal.h>
+#include <termios.h>
 
 /* What comes next on the input. */
 enum input_next {
@@ -23,12 +24,16 @@ struct input {
     size_t first, count;        /* the bytes that were read and not yet given */
     bool within_long;           /* the rest of a long line is still to come */
     bool ended;
-    sigset_t calm;              /* the signals that are let in while a read waits */
+    bool terminal;
+    struct termios modes;       /* of the terminal, before */
 };
 
-/* From input_open on the signals that end a program only end the next wait for a line, so that the
- * board can be closed first; Ctrl-Z does nothing, for a stopped board would stay as it is. */
+/* From input_open to input_close a signal that ends a program is only noted, so that the board can
+ * be closed first; the second one of its kind ends the program at once. What would stop it and
+ * leave a plan on the screen, as Ctrl-Z does, is ignored. A terminal drops nothing that was typed,
+ * or is still to be shown, because of a signal. */
 void input_open(struct input *input);
+void input_close(const struct input *input);
 
 /* The next line, without its end; it is good until the next call. */
 enum input_next input_line(struct input *input, struct text *line);

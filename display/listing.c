@@ -74,7 +74,8 @@ static bool next_line(struct source *source, struct text *line)
     const char *end = memchr(rest->bytes, '\n', rest->count);
     size_t length = end == NULL ? rest->count : (size_t)(end - rest->bytes);
     const char *comment = memchr(rest->bytes, '#', length);
-    *line = (struct text){rest->bytes, comment == NULL ? length : (size_t)(comment - rest->bytes)};
+    size_t kept = comment == NULL ? length : (size_t)(comment - rest->bytes);
+    *line = without_return((struct text){rest->bytes, kept});
     skip(rest, end == NULL ? length : length + 1);
     source->at++;
     return true;
@@ -113,7 +114,7 @@ static bool take_numbers(struct source *source, const char *name, uint32_t *numb
         if (found < count && !take_number(source, word, &numbers[found]))
             return false;
     return found == count
-        || wrong(source, source->at, "%zu instead of %zu numbers for %s", found, count, name);
+        || wrong(source, source->at, "expected %zu for %s, found %zu", count, name, found);
 }
 
 static bool take_head(struct source *source, struct line *line)

@@ -2,6 +2,7 @@
 #include "output.h"
 
 #include <errno.h>
+#include <poll.h>
 #include <stdlib.h>
 #include <string.h>
 #include <unistd.h>
@@ -11,11 +12,14 @@ bool output_bytes(const void *bytes, size_t count)
     const char *rest = bytes;
     while (count > 0) {
         ssize_t written = write(STDOUT_FILENO, rest, count);
-        if (written < 0 && errno != EINTR)
-            return false;
-        if (written > 0) {
+        if (written >= 0) {
             rest += written;
             count -= (size_t)written;
+        } else if (errno == EAGAIN) {
+            struct pollfd room = {.fd = STDOUT_FILENO, .events = POLLOUT};
+            poll(&room, 1, -1);
+        } else if (errno != EINTR) {
+            return false;
         }
     }
     return true;
@@ -24,8 +28,9 @@ bool output_bytes(const void *bytes, size_t count)
 struct screen screen_of_output(void)
 {
     const char *kind = getenv("TERM");
-    bool terminal = isatty(STDOUT_FILENO) && kind != NULL && strcmp(kind, "dumb") != 0;
-    return (struct screen){terminal, isatty(STDOUT_FILENO) && isatty(STDIN_FILENO)};
+    bool can_clear = kind != NULL && kind[0] != '\0' && strcmp(kind, "dumb") != 0;
+    bool terminal = isatty(STDOUT_FILENO);
+    return (struct screen){terminal && can_clear, terminal && isatty(STDIN_FILENO)};
 }
 
 /* To the upper left corner, clear the screen, clear what was scrolled off it. */

@@ -2,7 +2,6 @@
 #ifndef REFUSAL_H
 #define REFUSAL_H
 
-#include <stdbool.h>
 #include <stdint.h>
 
 /* What a refused call answered, and the line's trains, by which the place of a passenger field is

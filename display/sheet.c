@@ -26,7 +26,7 @@ bool sheet_read(const struct sheet *sheet, struct line *line, struct refusal *re
 
 bool sheet_write(const struct line *line, struct sheet *sheet, struct refusal *refusal)
 {
-    /* Lists for more than 64 trains there are none; write refuses such a line before it asks. */
+    /* There are no lists for over 64 trains; write refuses such a line before it looks at them. */
     size_t m = line->trains <= OBLACHURA_TRAINS ? line->trains : 0;
     uint64_t answer[OBLACHURA_ANSWER];
     uint32_t number = oblachura_write(line->trains, line->period, line->departures, m,

@@ -5,13 +5,19 @@
 
 static bool is_blank(char byte)
 {
-    return byte == ' ' || byte == '\t' || byte == '\r';
+    return byte == ' ' || byte == '\t';
 }
 
 void skip(struct text *text, size_t count)
 {
     text->bytes += count;
     text->count -= count;
+}
+
+struct text without_return(struct text line)
+{
+    bool has_one = line.count > 0 && line.bytes[line.count - 1] == '\r';
+    return (struct text){line.bytes, has_one ? line.count - 1 : line.count};
 }
 
 bool next_word(struct text *line, struct text *word)

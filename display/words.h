@@ -15,8 +15,10 @@ struct text {
 /* Takes so many bytes off the front. */
 void skip(struct text *text, size_t count);
 
-/* Takes the next word off the line; false if there is none. Blanks, tabs and carriage returns part
- * words. */
+/* The line without the carriage return that may stand at its end. */
+struct text without_return(struct text line);
+
+/* Takes the next word off the line; false if there is none. Blanks and tabs part words. */
 bool next_word(struct text *line, struct text *word);
 
 bool is_word(struct text word, const char *expected);

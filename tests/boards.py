@@ -83,8 +83,8 @@ class Board:
         if len(text) > 1024:
             self.not_understood(text[:1025], 'the line is over 1024 bytes')
             return False
-        words = text.replace(b'\t', b' ').replace(b'\r', b' ').split(b' ')
-        words = [word for word in words if word]
+        line = text[:-1] if text.endswith(b'\r') else text
+        words = [word for word in line.replace(b'\t', b' ').split(b' ') if word]
         if words == [b'quit']:
             return True
         if words == [b'plan']:
@@ -194,7 +194,7 @@ def some_sheet():
     if kind == 1:
         return sheet(MOST)
     if kind == 2:
-        return usual_line(chance.between(11, 64)).sheet()
+        return usual_line(chance.one_of([16, 17, chance.between(11, 64)])).sheet()
     line = small_line(m) if chance.below(2) else usual_line(m)
     data = line.sheet()
     if kind == 3:
@@ -215,7 +215,7 @@ def some_command(m):
         return b'plan'
     if kind == 1:
         return chance.one_of([b'', b'-1 5', b'1 5 6', b'1', b'plan 1', b'Plan', b'1 5x', b'1;5', b'1\t5', b' 2  7 ',
-                              b'1 5\r', b'1 0x5', b'1 +5', b'quit now', b'\x1b[2J', b'1\x005', b'\xc3\xa4', b'01 007',
+                              b'1 5\r', b'2\r7', b'1 0x5', b'1 +5', b'quit now', b'\x1b[2J', b'1\x005', b'\xc3\xa4', b'\x7f', b'01 007',
                               b'9' * 1023 + b' 1', b'1 ' + b'0' * 1022, b'7 ' * 600])
     if kind == 2:
         return some_bytes(chance.below(8)).replace(b'\n', b' ')
@@ -224,6 +224,8 @@ def some_command(m):
 
 def some_commands(m):
     lines = [some_command(m) for _ in range(chance.below(12))]
+    if 1 <= m <= 6 and chance.below(3) == 0:        # a long run, most of it accepted
+        lines += [b'%d %d' % (chance.between(1, m), chance.below(40)) for _ in range(30)] + lines
     end = chance.one_of([b'quit\n', b'quit\n', b'', b'1 1'])
     return b''.join(line + b'\n' for line in lines) + end
 

@@ -82,7 +82,7 @@ refuse() {
   desk "$1" "$2"
   ends_with 1 "$1 $2"
   [ ! -s "$room/out" ] || fail "$1 of $2 is refused and has output"
-  sed "s,^desk $1: ,$1 ${2#*/}: ," "$room/err"
+  sed "s,^desk $1: $2: ,$1 ${2#*/}: ," "$room/err"
 }
 {
   for text in samples/damaged/*.txt; do refuse pack "$text"; done
@@ -126,21 +126,71 @@ if [ -c /dev/full ]; then
   done
 fi
 
-# ---- a signal closes the board: no plan stays ----
-for signal in TERM INT HUP; do
-  mkfifo "$room/$signal"
-  # a shell lets a program in the background ignore INT, so the board is started by env, which undoes that
-  env --default-signal=INT "${emulator[@]}" "$program" board samples/B.sheet < "$room/$signal" > "$room/out" &
-  exec 3> "$room/$signal"
+# a text of just 1 MiB is read
+head -c $((1048576 - $(wc -c < samples/B.txt))) /dev/zero | tr '\0' ' ' > "$room/blanks"
+cat samples/B.txt "$room/blanks" > "$room/long"
+desk pack "$room/long"
+cmp "$room/out" samples/B.sheet || fail 'a text of 1 MiB is not read'
+
+# an output that nobody reads any more
+status=0
+{ "${emulator[@]}" "$program" board samples/B.sheet < tests/display/B.reports.in 2> "$room/err" || echo $? > "$room/status"; } |
+  true
+[ "$(cat "$room/status")" = 1 ] && grep -q 'standard output: ' "$room/err" || fail 'a closed pipe is not told'
+
+# ---- how a board ends: no plan stays ----
+closes() {
+  ends_with 1 "$1"
+  [ "$(tail -n 3 "$room/out")" = "$(printf 'samples/B.sheet\n%s; no plan is shown\n' "$2")" ] || fail "$1: no closing frame"
+}
+desk board samples/B.sheet <&-
+closes 'no standard input' 'closed, the input cannot be read'
+desk board samples/B.sheet < samples
+closes 'a folder as input' 'closed, the input cannot be read'
+desk board samples/B.sheet <<< 'x'
+closes 'end of input' 'closed, the input ended without quit'
+printf 'quit' > "$room/cut"
+desk board samples/B.sheet < "$room/cut"
+closes 'quit without its end' 'closed, the input ended without quit'
+
+# Starts a board on an input that stays open, waits for its first frame, sends signals.
+signal_board() {
+  rm -f "$room/in"
+  mkfifo "$room/in"
+  : > "$room/out"
+  # a shell has its jobs in the background ignore INT and QUIT; env undoes that
+  env --default-signal=INT,QUIT "${emulator[@]}" "$program" board samples/B.sheet < "$room/in" > "$room/out" &
+  exec 3> "$room/in"
   wait_for accepted "$room/out"
-  kill -s "$signal" $!
+  kill -s "$1" $!
   status=0
   wait $! || status=$?
   exec 3>&-
-  ends_with 1 "signal $signal"
-  [ "$(tail -n 3 "$room/out")" = "$(printf 'samples/B.sheet\nclosed by a signal; no plan is shown\n')" ] ||
-    fail "signal $signal does not close the board"
+}
+for signal in TERM INT HUP QUIT USR1; do
+  signal_board "$signal"
+  closes "signal $signal" 'closed by a signal'
 done
+
+# also while commands come without end
+: > "$room/out"
+{ yes '1 5' || true; } 2> "$room/ignored" |
+  "${emulator[@]}" "$program" board samples/B.sheet > "$room/out" &
+wait_for accepted "$room/out"
+kill -s TERM $!
+wait $! || true
+tail -n 2 "$room/out" | grep -q '^closed by a signal' || fail 'no end while commands come'
+
+# ---- what is typed may come in pieces ----
+{ for byte in 1 ' ' 5 '\n' pl an '\n' q uit '\n'; do printf '%b' "$byte"; sleep 0.02; done; } |
+  "${emulator[@]}" "$program" board samples/B.sheet > "$room/out" || fail 'commands in pieces'
+[ "$(grep -c '^answer    accepted$' "$room/out")" = 3 ] || fail 'commands in pieces are not those'
+
+# ---- a name cannot command the terminal, nor be wider than it ----
+name=$(printf 'a\033[2J%0100d' 0)
+cp samples/B.sheet "$room/$name"
+(cd "$room" && echo quit | "${emulator[@]}" "$program" board "$name" > out)
+head -n 1 "$room/out" | grep -qE '^a\?\[2J0{73}\.\.$' || fail 'the name of a sheet is shown as it is'
 
 echo "the display shows what it must: ${#frames[@]} boards, $same sheets as text and back," \
   "$(wc -l < tests/display/refusals.out) refusals"

@@ -20,7 +20,8 @@ if ! command -v tmux > "$room/ignored"; then
   echo 'the board on a terminal was not tried: there is no tmux'
   exit 0
 fi
-printf 'set -g remain-on-exit on\nset -g status off\nset -g history-limit 5000\n' > "$room/conf"
+printf 'set -g status off\nset -g history-limit 5000\nset -g default-shell /bin/sh\nset -g exit-empty off\n' > \
+  "$room/conf"
 
 # All that the terminal holds, also what was scrolled off.
 look() {
@@ -28,15 +29,28 @@ look() {
   sed -e 's/ *$//' "$room/all" | sed -e ':a' -e '/^\n*$/{$d;N;ba' -e '}' > "$room/seen"
 }
 
-# Waits until that is the file.
-wait_for() {
+# wait_until REASON CONDITION ..: looks until the condition holds.
+wait_until() {
+  local reason=$1
+  shift
   for _ in $(seq "$tenths"); do
     look
-    ! cmp -s "$room/seen" "$1" || return 0
+    ! "$@" || return 0
     sleep 0.1
   done
-  diff "$room/seen" "$1" >&2 || true
-  fail "$2"
+  fail "$reason"
+}
+
+shows_frame() {
+  cmp -s "$room/seen" "$room/frame"
+}
+
+shows_line() {
+  grep -q "$1" "$room/seen"
+}
+
+shows_answers() {
+  [ "$(grep -c '^answer ' "$room/seen")" = "$1" ]
 }
 
 # The N-th frame of a file of frames with the prompt behind it.
@@ -46,38 +60,55 @@ frame_of() {
   echo '>' >> "$room/frame"
 }
 
+# Opens a board as a shell with job control does, so that Ctrl-Z has its meaning; its status stays below it.
 open_board() {
-  "${tmux[@]}" new-session -d -x 80 -y 24 "$(printf '%q ' "${words[@]}" board "$1")"
+  "${tmux[@]}" new-session -d -x 80 -y 24 "$(printf '%q ' bash --norc -c \
+    'set -m; "$@"; echo "status $?"; sleep 1000' - "$@")"
+}
+
+type_line() {
+  "${tmux[@]}" send-keys -l "$1"
+  "${tmux[@]}" send-keys Enter
 }
 
 frames=tests/display/line_64.reports.out
-
-open_board samples/line_64.sheet
+open_board "${words[@]}" board samples/line_64.sheet
 frame_of "$frames" 1
-wait_for "$room/frame" 'the first frame differs'
+wait_until 'the first frame differs' shows_frame
 at=1
 while read -r command; do
-  "${tmux[@]}" send-keys -l "$command"
-  "${tmux[@]}" send-keys Enter
+  type_line "$command"
   at=$((at + 1))
   frame_of "$frames" "$at"
-  wait_for "$room/frame" "the frame after '$command' differs"
+  wait_until "the frame after '$command' differs" shows_frame
 done < tests/display/line_64.reports.in
 
 # In sight are the last trains, the titles again, the total and the answer.
 "${tmux[@]}" capture-pane -p > "$room/seen"
 [ "$(wc -l < "$room/seen")" = 24 ] || fail 'the screen has not 24 lines'
-grep -q '^   64 ' "$room/seen" && grep -q '^train ' "$room/seen" && grep -q '^total ' "$room/seen" &&
-  grep -q '^answer ' "$room/seen" || fail 'the end of a long board is out of sight'
-
-# Ctrl-Z does not stop the board, and Ctrl-C closes it.
-"${tmux[@]}" send-keys C-z
-"${tmux[@]}" send-keys C-c
-for _ in $(seq "$tenths"); do
-  look
-  ! grep -q '^closed by a signal; no plan is shown$' "$room/seen" || break
-  sleep 0.1
+for begin in '   64 ' 'train ' 'total ' 'answer '; do
+  shows_line "^$begin" || fail 'the end of a long board is out of sight'
 done
-grep -q '^closed by a signal; no plan is shown$' "$room/seen" || fail 'Ctrl-C does not close it'
-! grep -qE 'keep|go |total' "$room/seen" || fail 'a plan stays when the board is closed'
+
+# Ctrl-Z does not stop the board, and takes nothing away that was typed before.
+type_line 'plan'
+"${tmux[@]}" send-keys C-z
+wait_until 'Ctrl-Z stops the board, or takes a command away' shows_line '^command   plan$'
+type_line '65 3'
+wait_until 'the board goes on no more after Ctrl-Z' shows_line '^command   65 3$'
+type_line 'plan'
+wait_until 'there is no plan to take away' shows_line '^command   plan$'
+
+# Ctrl-C closes it.
+"${tmux[@]}" send-keys C-c
+wait_until 'Ctrl-C does not close it' shows_line '^status 1$'
+shows_line '^closed by a signal; no plan is shown$' || fail 'no closing frame'
+! shows_line 'keep\|go \|total\|>' || fail 'a plan stays when the board is closed'
+"${tmux[@]}" kill-session
+
+# On a terminal that cannot clear, frames follow each other.
+open_board env TERM=dumb "${words[@]}" board samples/B.sheet
+wait_until 'no first frame where the terminal cannot clear' shows_answers 1
+type_line '1 5'
+wait_until 'frames do not follow each other where the terminal cannot clear' shows_answers 2
 echo "the board keeps to its screen on a terminal: $at frames of 64 trains, and the end"
