@@ -123,7 +123,7 @@ bench: tools archive
 	@$(EMULATOR) $(BUILT)/bench $(if $(EMULATOR),--emulated)
 
 vectors:
-	python3 tests/cases.py --check
+	python3 tests/sheet_cases.py --check
 	python3 tests/sheets.py --check
 	python3 tests/plan_cases.py --check
 	python3 tests/plans.py --check

@@ -13,7 +13,7 @@ import subprocess
 import sys
 import tempfile
 
-from cases import MOST, sheet
+from sheet_cases import MOST, sheet
 from plans import KEEP, Day, Given, answer, small_line, usual_line
 from sheets import chance, filled, pack, pairs_of, read, some_bytes
 

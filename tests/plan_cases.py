@@ -11,7 +11,7 @@
 
 import sys
 
-from cases import A, B, MOST, named, sheet
+from sheet_cases import A, B, MOST, named, sheet
 from plans import GO, KEEP, LENGTHS, answer, compare_or_write, list_lines, listed, record, sum_line
 
 FOUND = 'not printed in document 01'

@@ -10,7 +10,7 @@
 import os
 import sys
 
-from cases import A, B, MOST, sheet
+from sheet_cases import A, B, MOST, sheet
 from plan_cases import C, D, refused_sheets
 from plans import KEEP, answer, usual_line
 

@@ -7,7 +7,7 @@
 import os
 import sys
 
-from cases import A, B, sheet
+from sheet_cases import A, B, sheet
 from sheets import Line, chance, pairs_of
 
 

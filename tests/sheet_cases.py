@@ -4,8 +4,8 @@
 # gives the form of a record. What the program must print for them, crates/sheet_cases/stdout, is written by hand from
 # document 01.
 #
-#   python3 tests/cases.py            writes the records
-#   python3 tests/cases.py --check    compares; ends with 1 if they differ
+#   python3 tests/sheet_cases.py            writes the records
+#   python3 tests/sheet_cases.py --check    compares; ends with 1 if they differ
 
 import os
 import struct
@@ -161,7 +161,7 @@ def main(arguments):
     made = b''.join(reads() + writes())
     if arguments == ['--check']:
         if not os.path.exists(path) or open(path, 'rb').read() != made:
-            sys.exit('crates/sheet_cases/stdin differs: run python3 tests/cases.py')
+            sys.exit('crates/sheet_cases/stdin differs: run python3 tests/sheet_cases.py')
     else:
         with open(path, 'wb') as file:
             file.write(made)
