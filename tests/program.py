@@ -10,8 +10,8 @@
 import os
 import sys
 
-from sheet_cases import A, B, MOST, sheet
 from plan_cases import C, D, refused_sheets
+from sheet_cases import A, B, MOST, sheet
 from plans import KEEP, answer, usual_line
 
 

@@ -10,8 +10,8 @@
 
 import sys
 
-from sheet_cases import A, B, MOST, named, sheet
 from plan_cases import refused_sheets
+from sheet_cases import A, B, MOST, named, sheet
 from plans import GO, KEEP, MOST_TOTAL, compare_or_write, listed, mark
 from reports import REPORT, Plan, Report, Set, full_lines, name_of, place, record, sum_lines, worked_through
 
