@@ -111,4 +111,6 @@ open_board env TERM=dumb "${words[@]}" board samples/B.sheet
 wait_until 'no first frame where the terminal cannot clear' shows_answers 1
 type_line '1 5'
 wait_until 'frames do not follow each other where the terminal cannot clear' shows_answers 2
+type_line 'quit'
+wait_until 'quit does not close it' shows_line '^status 0$'
 echo "the board keeps to its screen on a terminal: $at frames of 64 trains, and the end"

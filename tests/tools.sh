@@ -1,30 +1,33 @@
 #!/usr/bin/env bash
-# What the tests from outside need beside the Rattle toolchain: a C and a C++ compiler for x86-64, Python and, on a
-# machine that is not x86-64, an emulator. Installs Debian's packages of what is missing, or tells which to install.
+# What is needed beside the Rattle toolchain. Installs Debian's packages of what is missing, or tells which to install.
+#   tools.sh display    to build and run the display: a C compiler for x86-64 and, on another machine, an emulator
+#   tools.sh            for the tests from outside: that, a C++ compiler and Python
 set -euo pipefail
 
-needed='make:make cmp:diffutils python3:python3'
+# command:package, or packages with commas between them
 if [ "$(uname -m)" = x86_64 ]; then
-  needed="$needed gcc:gcc g++:g++"
+  needed='gcc:gcc,libc6-dev'
+  cxx='g++:g++'
 else
-  needed="$needed x86_64-linux-gnu-gcc:gcc-x86-64-linux-gnu x86_64-linux-gnu-g++:g++-x86-64-linux-gnu
-    qemu-x86_64:qemu-user"
+  needed='x86_64-linux-gnu-gcc:gcc-x86-64-linux-gnu,libc6-dev-amd64-cross qemu-x86_64:qemu-user'
+  cxx='x86_64-linux-gnu-g++:g++-x86-64-linux-gnu'
 fi
+[ "${1:-}" = display ] || needed="$needed $cxx cmp:diffutils python3:python3"
 
 missing() {
   for pair in $needed; do
-    command -v "${pair%%:*}" > /dev/null || echo "${pair#*:}"
+    command -v "${pair%%:*}" > /dev/null || echo "${pair#*:}" | tr ',' ' '
   done
 }
 
-packages=$(missing | xargs)
+packages=$(echo $(missing))
 [ -n "$packages" ] || exit 0
 if [ "$(id -u)" = 0 ] && command -v apt-get > /dev/null; then
   echo "installing $packages" >&2
   { apt-get update && DEBIAN_FRONTEND=noninteractive apt-get install -y --no-install-recommends $packages; } >&2 || true
-  packages=$(missing | xargs)
+  packages=$(echo $(missing))
 fi
 [ -z "$packages" ] || {
-  echo "the tests from outside need more; as root: apt-get install $packages" >&2
+  echo "more is needed; as root: apt-get install $packages" >&2
   exit 1
 }
