@@ -64,18 +64,18 @@ for text in "${texts[@]}"; do
   cmp "$room/out" "$text" || fail "unpack of $sheet"
 done
 
-# unpack, then pack, is the identity
-sheets=(samples/*.sheet tests/program/*.sheet)
+# unpack, then pack, is the identity, on every sheet that the plan program must accept
 same=0
-for sheet in "${sheets[@]}"; do
+for sheet in samples/*.sheet tests/program/*.sheet; do
+  ! grep -qs '^refused' "${sheet%.sheet}.out" || continue
   desk unpack < "$sheet"
-  [ "$status" = 0 ] || continue
+  ends_with 0 "unpack of $sheet"
   cp "$room/out" "$room/text"
   desk pack < "$room/text"
   cmp "$room/out" "$sheet" || fail "unpack and pack of $sheet"
   same=$((same + 1))
 done
-[ "$same" -ge 10 ] || fail "only $same sheets were unpacked"
+[ "$same" -ge 10 ] || fail "only $same sheets to unpack"
 
 # ---- refusals: one line, status 1, no output ----
 refuse() {
