@@ -36,6 +36,18 @@ wait_for() {
   fail "'$1' did not come"
 }
 
+# Sends a signal to a board in the background and waits for its end.
+stop_board() {
+  kill -s "$1" "$2"
+  for _ in $(seq 300); do
+    kill -0 "$2" 2> "$room/ignored" || break
+    sleep 0.1
+  done
+  ! kill -s KILL "$2" 2> "$room/ignored" || fail "signal $1 does not end the board"
+  status=0
+  wait "$2" || status=$?
+}
+
 # ---- frames: tests/display/SAMPLE.NAME.in, '__' standing for '/' ----
 frames=(tests/display/*.in)
 [ "${#frames[@]}" -gt 0 ] || fail 'tests/display has no frames'
@@ -153,7 +165,7 @@ printf 'quit' > "$room/cut"
 desk board samples/B.sheet < "$room/cut"
 closes 'quit without its end' 'closed, the input ended without quit'
 
-# Starts a board on an input that stays open, waits for its first frame, sends signals.
+# Starts a board on an input that stays open, waits for its first frame and stops it.
 signal_board() {
   rm -f "$room/in"
   mkfifo "$room/in"
@@ -162,9 +174,7 @@ signal_board() {
   env --default-signal=INT,QUIT "${emulator[@]}" "$program" board samples/B.sheet < "$room/in" > "$room/out" &
   exec 3> "$room/in"
   wait_for accepted "$room/out"
-  kill -s "$1" $!
-  status=0
-  wait $! || status=$?
+  stop_board "$1" $!
   exec 3>&-
 }
 for signal in TERM INT HUP QUIT USR1; do
@@ -177,8 +187,7 @@ done
 { yes '1 5' || true; } 2> "$room/ignored" |
   "${emulator[@]}" "$program" board samples/B.sheet > "$room/out" &
 wait_for accepted "$room/out"
-kill -s TERM $!
-wait $! || true
+stop_board TERM $!
 tail -n 2 "$room/out" | grep -q '^closed by a signal' || fail 'no end while commands come'
 
 # ---- what is typed may come in pieces ----
