@@ -4,7 +4,8 @@ SHELL = bash
 .SHELLFLAGS = -o pipefail -c
 # Two at once would build in one folder.
 .NOTPARALLEL:
-.PHONY: help run test cases desk archive tools compiler outside example program boundary display bench vectors wrong format
+.PHONY: help run test cases desk archive tools compiler outside example program boundary display bench vectors wrong \
+    format
 
 help:
 	@echo 'make run       build the display, plan the sample line B and show its board'
@@ -13,8 +14,7 @@ help:
 	@echo 'make desk      build the display, $(DESK)'
 	@echo 'make archive   prove the operations and build $(ARCHIVE), to link with include/oblachura.h'
 	@echo 'make cases     prove plan and report, run them on the cases of document 01 and show what they answer and store'
-	@echo 'make outside   the tests from outside: the C example, the plan program, the archive against document 01, the'
-	@echo '               display'
+	@echo 'make outside   the tests from outside: make example, program, boundary and display'
 	@echo 'make bench     compare the archive with plain C, side by side'
 	@echo 'make tools     install what the tests from outside need, or tell what is missing'
 	@echo 'make vectors   compare the test inputs, and the answers not written by hand, with what makes them'

@@ -1,8 +1,9 @@
 /* The board: a line's sheet, the working cells that belong to it, and what is shown of them.
  *
- * A plan is on the board only from the end of an accepted call to the begin of the next command.
- * It is put there by put_up alone, together with the delays it was made for, and it is taken off
- * before anything else is done. So what refuses, fails or is not understood leaves no plan. */
+ * A plan is on the board only from the end of an accepted call to the beginning of the next
+ * command. It is put there by put_up alone, together with the delays it was made for, and it is
+ * taken off before anything else is done. So what refuses, fails or is not understood leaves no
+ * plan. */
 #include "board.h"
 
 #include <stdio.h>

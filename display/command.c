@@ -12,7 +12,7 @@ static struct command report_of(struct text train_word, struct text delay_word)
     enum number_fault train = number_of(train_word, &report.train);
     enum number_fault delay = number_of(delay_word, &report.delay);
     if (train == NUMBER_NONE || delay == NUMBER_NONE)
-        return malformed("train and delay are decimal numbers");
+        return malformed("train and delay are whole numbers, as 1 5");
     if (train == NUMBER_LARGE || delay == NUMBER_LARGE)
         return malformed("a number is over 4294967295");
     return report;

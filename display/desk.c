@@ -111,7 +111,7 @@ static enum state take_line(struct board *board, struct input *input)
     case INPUT_STOPPED: return BOARD_STOPPED;
     default: break;
     }
-    printable(board->news.command, COMMAND_WIDTH, line);
+    printable(board->news.command, COMMAND_WIDTH, without_return(line));
     if (next == INPUT_LINE)
         return obey(board, line);
     board_malformed(board, next == INPUT_LONG ? "the line is over 1024 bytes"

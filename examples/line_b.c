@@ -1,7 +1,7 @@
 /* A display in small: plans line B of the customer's document 01, takes one report and shows each
  * answer. What it prints is in line_b.out.
  *
- *   cc -std=c11 -Iinclude examples/line_b.c liboblachura.a -o line_b */
+ *   cc -Iinclude examples/line_b.c target/staticlib/liboblachura.a -o target/line_b */
 #include <inttypes.h>
 #include <stdio.h>
 

@@ -83,8 +83,8 @@ class Board:
         if len(text) > 1024:
             self.not_understood(text[:1025], 'the line is over 1024 bytes')
             return False
-        line = text[:-1] if text.endswith(b'\r') else text
-        words = [word for word in line.replace(b'\t', b' ').split(b' ') if word]
+        text = text[:-1] if text.endswith(b'\r') else text
+        words = [word for word in text.replace(b'\t', b' ').split(b' ') if word]
         if words == [b'quit']:
             return True
         if words == [b'plan']:
@@ -96,7 +96,7 @@ class Board:
         elif len(words) > 2:
             self.not_understood(text, 'a command has at most two words')
         elif not all(set(word) <= set(b'0123456789') for word in words):
-            self.not_understood(text, 'train and delay are decimal numbers')
+            self.not_understood(text, 'train and delay are whole numbers, as 1 5')
         elif max(map(int, words)) > 2 ** 32 - 1:
             self.not_understood(text, 'a number is over 4294967295')
         else:
@@ -112,7 +112,7 @@ class Board:
         if len(rest) > 1024:
             self.line(rest)
         elif rest:
-            self.not_understood(rest, 'the input ended within the line')
+            self.not_understood(rest[:-1] if rest.endswith(b'\r') else rest, 'the input ended within the line')
         return self.frames + '%s\nclosed, the input ended without quit; no plan is shown\n\n' % self.title, 1
 
     # What a frame shows.
@@ -215,8 +215,8 @@ def some_command(m):
         return b'plan'
     if kind == 1:
         return chance.one_of([b'', b'-1 5', b'1 5 6', b'1', b'plan 1', b'Plan', b'1 5x', b'1;5', b'1\t5', b' 2  7 ',
-                              b'1 5\r', b'2\r7', b'1 0x5', b'1 +5', b'quit now', b'\x1b[2J', b'1\x005', b'\xc3\xa4', b'\x7f', b'01 007',
-                              b'9' * 1023 + b' 1', b'1 ' + b'0' * 1022, b'7 ' * 600])
+                              b'1 5\r', b'2\r7', b'1 0x5', b'1 +5', b'quit now', b'\x1b[2J', b'1\x005', b'\xc3\xa4',
+                              b'\x7f', b'01 007', b'9' * 1023 + b' 1', b'1 ' + b'0' * 1022, b'7 ' * 600])
     if kind == 2:
         return some_bytes(chance.below(8)).replace(b'\n', b' ')
     return b'%d %d' % (some_number(chance.between(1, max(m, 1))), some_number(chance.below(40)))

@@ -152,7 +152,8 @@ cmp "$room/out" samples/B.sheet || fail 'a text of 1 MiB is not read'
 # ---- how a board ends: no plan stays ----
 closes() {
   ends_with 1 "$1"
-  [ "$(tail -n 3 "$room/out")" = "$(printf 'samples/B.sheet\n%s; no plan is shown\n' "$2")" ] || fail "$1: no closing frame"
+  [ "$(tail -n 3 "$room/out")" = "$(printf 'samples/B.sheet\n%s; no plan is shown\n' "$2")" ] ||
+    fail "$1: no closing frame"
 }
 desk board samples/B.sheet <&-
 closes 'no standard input' 'closed, the input cannot be read'

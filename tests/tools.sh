@@ -1,7 +1,7 @@
 #!/usr/bin/env bash
 # What is needed beside the Rattle toolchain. Installs Debian's packages of what is missing, or tells which to install.
 #   tools.sh display    to build and run the display: a C compiler for x86-64 and, on another machine, an emulator
-#   tools.sh            for the tests from outside: that, a C++ compiler and Python
+#   tools.sh            for the tests from outside: that, a C++ compiler and Python; tmux too, but they go without it
 set -euo pipefail
 
 # command:package, or packages with commas between them
@@ -12,21 +12,24 @@ else
   needed='x86_64-linux-gnu-gcc:gcc-x86-64-linux-gnu,libc6-dev-amd64-cross qemu-x86_64:qemu-user'
   cxx='x86_64-linux-gnu-g++:g++-x86-64-linux-gnu'
 fi
-[ "${1:-}" = display ] || needed="$needed $cxx cmp:diffutils python3:python3"
+wanted=
+if [ "${1:-}" != display ]; then
+  needed="$needed $cxx make:make cmp:diffutils python3:python3"
+  wanted=tmux:tmux
+fi
 
 missing() {
-  for pair in $needed; do
+  for pair in "$@"; do
     command -v "${pair%%:*}" > /dev/null || echo "${pair#*:}" | tr ',' ' '
   done
 }
 
-packages=$(echo $(missing))
-[ -n "$packages" ] || exit 0
-if [ "$(id -u)" = 0 ] && command -v apt-get > /dev/null; then
+packages=$(echo $(missing $needed $wanted))
+if [ -n "$packages" ] && [ "$(id -u)" = 0 ] && command -v apt-get > /dev/null; then
   echo "installing $packages" >&2
   { apt-get update && DEBIAN_FRONTEND=noninteractive apt-get install -y --no-install-recommends $packages; } >&2 || true
-  packages=$(echo $(missing))
 fi
+packages=$(echo $(missing $needed))
 [ -z "$packages" ] || {
   echo "more is needed; as root: apt-get install $packages" >&2
   exit 1
