@@ -16,12 +16,13 @@ fail() {
   exit 1
 }
 
-if ! command -v tmux > "$room/ignored"; then
-  echo 'the board on a terminal was not tried: there is no tmux'
-  exit 0
-fi
 printf 'set -g status off\nset -g history-limit 5000\nset -g default-shell /bin/sh\nset -g exit-empty off\n' > \
   "$room/conf"
+if ! "${tmux[@]}" new-session -d 'sleep 1000' 2> "$room/ignored"; then
+  echo 'the board on a terminal was not tried: tmux cannot open one'
+  exit 0
+fi
+"${tmux[@]}" kill-session
 
 # All that the terminal holds, also what was scrolled off.
 look() {
