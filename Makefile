@@ -46,6 +46,8 @@ DESK = $(BUILT)/desk
 DISPLAY = $(CC_X86) -std=c11 -D_POSIX_C_SOURCE=200809L -O2 $(WARN) -Wshadow -Wconversion -Iinclude
 REFUSING = tests/display/refusing/refusing.c -Wl,--wrap=oblachura_report,--wrap=oblachura_plan
 
+# Crates wait for those below them, so more jobs than processors keep all busy; 4 suits two processors.
+export RT_JOBS ?= 4
 RT = @command -v rt > /dev/null || { echo 'rt, the command of the Rattle toolchain, is not on the PATH' >&2; exit 1; }
 
 run: desk
@@ -69,11 +71,12 @@ compiler:
 
 archive: $(ARCHIVE)
 
-# anew when a crate has changed
+# Anew when a crate has changed. What the archive rests on is proved first, crates side by side; rt staticlib alone
+# would go through them one by one.
 $(ARCHIVE): crates.txt $(shell find crates -name '*.rt' -o -name '*.antt')
 	$(RT)
 	@echo 'proving the operations and building the archive (two or three minutes) ..' >&2
-	@rt staticlib oblachura > /dev/null 2>&1 || { rt staticlib oblachura; exit 1; }
+	@{ rt check demands && rt staticlib oblachura; } > /dev/null 2>&1 || { rt staticlib oblachura; exit 1; }
 	@echo 'built $(ARCHIVE)' >&2
 
 desk: $(DESK)
@@ -82,7 +85,11 @@ $(DESK): $(ARCHIVE) $(wildcard display/*) include/oblachura.h | compiler
 	@mkdir -p $(BUILT)
 	@$(DISPLAY) display/*.c $(ARCHIVE) -o $@
 
-outside: example program boundary display
+# The archive is built by now; its two long tests run side by side.
+outside: example program
+	@$(MAKE) --no-print-directory boundary > $(BUILT)/boundary.log 2>&1 & side=$$!; \
+	$(MAKE) --no-print-directory display; status=$$?; \
+	wait $$side || status=1; cat $(BUILT)/boundary.log; exit $$status
 
 # as C and as C++; the header by itself also as older C
 example: tools archive
