@@ -13,8 +13,8 @@ import subprocess
 import sys
 import tempfile
 
+from plans import KEEP, Day, Given, answer, compare_or_write, small_line, usual_line
 from sheet_cases import MOST, sheet
-from plans import KEEP, Day, Given, answer, small_line, usual_line
 from sheets import chance, filled, pack, pairs_of, read, some_bytes
 
 TITLES = 'train  departs  reported  decision  departs late  arrives late'
@@ -169,16 +169,12 @@ def boards():
             yield name[:-3], Board(title, data).run(commands)[0]
 
 
-def compare_or_write(write):
+def compare_all(write):
+    """Writes the boards that are not written by hand, or compares; compares those by hand."""
     wrong = 0
     for name, printed in boards():
-        path = os.path.join(HERE, 'display', name + '.out')
-        if write and not name.startswith(BY_HAND):
-            with open(path, 'w') as file:
-                file.write(printed)
-        elif not os.path.exists(path) or open(path).read() != printed:
-            wrong = 1
-            print('tests/display/%s.out differs from what tests/boards.py makes' % name)
+        files = [(name + '.out', printed.encode('ascii'))]
+        wrong |= compare_or_write('tests/display', files, write and not name.startswith(BY_HAND), 'tests/boards.py')
     return wrong
 
 
@@ -254,7 +250,7 @@ def run(count, program):
 
 def main(arguments):
     if arguments == [] or arguments == ['--check']:
-        return compare_or_write(arguments == [])
+        return compare_all(arguments == [])
     if len(arguments) >= 3 and arguments[0] == '--run':
         return run(int(arguments[1]), arguments[2:])
     print('usage: python3 tests/boards.py [--check | --run COUNT PROGRAM ..]', file=sys.stderr)

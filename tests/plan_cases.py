@@ -11,8 +11,8 @@
 
 import sys
 
-from sheet_cases import A, B, MOST, named, sheet
 from plans import GO, KEEP, LENGTHS, answer, compare_or_write, list_lines, listed, record, sum_line
+from sheet_cases import A, B, MOST, named, sheet
 
 FOUND = 'not printed in document 01'
 C = dict(m=2, T=10, departures=[0, 10], driving=[10, 10], delays=[5, 0], passengers=[0, 1, 1])
@@ -142,7 +142,7 @@ def main(arguments):
     made = by_hand() + boundaries() + [refused(*each) for each in refused_sheets()] + lengths()
     files = [('stdin', b''.join(data for data, _ in made)),
              ('stdout', ''.join(lines for _, lines in made).encode('ascii'))]
-    wrong = compare_or_write('plan_cases', files, arguments == [], 'tests/plan_cases.py')
+    wrong = compare_or_write('crates/plan_cases', files, arguments == [], 'tests/plan_cases.py')
     print('%d records of plan' % len(made))
     return wrong
 

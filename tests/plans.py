@@ -742,17 +742,17 @@ def record(letter, sheet, lengths=LENGTHS):
 
 
 def compare_or_write(folder, files, write, maker):
-    """Writes the files of a crate, or tells which differ; 1 if one does."""
+    """Writes the files of a folder, named from the root, or tells which differ; 1 if one does."""
     root = os.path.dirname(os.path.dirname(os.path.abspath(__file__)))
     wrong = 0
     for name, content in files:
-        path = os.path.join(root, 'crates', folder, name)
+        path = os.path.join(root, folder, name)
         if write:
             with open(path, 'wb') as file:
                 file.write(content)
         elif not os.path.exists(path) or open(path, 'rb').read() != content:
             wrong = 1
-            print('crates/%s/%s differs from what %s makes' % (folder, name, maker))
+            print('%s/%s differs from what %s makes' % (folder, name, maker))
     return wrong
 
 
@@ -770,7 +770,7 @@ def main(arguments):
     files = [('stdin', b''.join(record(b'P', sheet, lengths) for _, sheet, lengths in records)),
              ('stdout', ('\n'.join(lines) + '\n').encode('ascii'))]
     assert sum(len(content) for _, content in files) < 300000
-    wrong = compare_or_write('plan_stream', files, arguments == [], 'tests/plans.py')
+    wrong = compare_or_write('crates/plan_stream', files, arguments == [], 'tests/plans.py')
     if wrong == 0:
         print('plan %d: %s' % (len(records), ', '.join('%s x%d' % item for item in sorted(numbers.items()))))
         print('accepted by m: %s' % ', '.join('%d x%d' % item for item in sorted(trains.items())))

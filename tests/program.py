@@ -7,12 +7,11 @@
 #   python3 tests/program.py            writes the files
 #   python3 tests/program.py --check    compares; ends with 1 if one differs
 
-import os
 import sys
 
 from plan_cases import C, D, refused_sheets
+from plans import KEEP, answer, compare_or_write, usual_line
 from sheet_cases import A, B, MOST, sheet
-from plans import KEEP, answer, usual_line
 
 
 def printed(data):
@@ -53,7 +52,7 @@ def by_reading():
     yield '64 trains, all at their most', sheet(MOST)
 
 
-def files():
+def sheets():
     for name, data, text in by_hand():
         assert printed(data) == text, (name, printed(data), text)
         yield name, data, text
@@ -61,24 +60,20 @@ def files():
         yield name, data, printed(data)
 
 
+def files():
+    for name, data, text in sheets():
+        name = name.replace(' ', '_').replace(',', '')
+        yield name + '.sheet', data
+        yield name + '.out', text.encode('ascii')
+
+
 def main(arguments):
     if arguments not in ([], ['--check']):
         print('usage: python3 tests/program.py [--check]', file=sys.stderr)
         return 2
-    folder = os.path.join(os.path.dirname(os.path.abspath(__file__)), 'program')
-    wrong = made = 0
-    for name, data, text in files():
-        made += 1
-        for path, content in ((name + '.sheet', data), (name + '.out', text.encode('ascii'))):
-            path = os.path.join(folder, path.replace(' ', '_').replace(',', ''))
-            if arguments == []:
-                with open(path, 'wb') as file:
-                    file.write(content)
-            elif not os.path.exists(path) or open(path, 'rb').read() != content:
-                wrong = 1
-                print('tests/program/%s differs from what tests/program.py makes' % os.path.basename(path))
-    print('%d sheets for the plan program' % made)
-    return wrong
+    made = list(files())
+    print('%d sheets for the plan program' % (len(made) // 2))
+    return compare_or_write('tests/program', made, arguments == [], 'tests/program.py')
 
 
 if __name__ == '__main__':

@@ -11,9 +11,9 @@
 import sys
 
 from plan_cases import refused_sheets
-from sheet_cases import A, B, MOST, named, sheet
 from plans import GO, KEEP, MOST_TOTAL, compare_or_write, listed, mark
 from reports import REPORT, Plan, Report, Set, full_lines, name_of, place, record, sum_lines, worked_through
+from sheet_cases import A, B, MOST, named, sheet
 
 MOST_NUMBER = 2 ** 64 - 1
 
@@ -233,7 +233,7 @@ def main(arguments):
     made = by_hand() + refusals() + over() + other_cells() + sums()
     files = [('stdin', b''.join(data for data, _ in made)),
              ('stdout', ''.join(lines for _, lines in made).encode('ascii'))]
-    wrong = compare_or_write('report_cases', files, arguments == [], 'tests/report_cases.py')
+    wrong = compare_or_write('crates/report_cases', files, arguments == [], 'tests/report_cases.py')
     reports = sum(line.split(': ')[-1].startswith('report ') for _, lines in made for line in lines.splitlines())
     print('%d runs, %d reports' % (len(made), reports))
     return wrong

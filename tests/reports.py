@@ -902,7 +902,7 @@ def main(arguments):
     files = [('stdin', b''.join(record(b'R', sheet, steps) for sheet, steps in runs)),
              ('stdout', ''.join('%s\n' % line for each in lines for line in each).encode('ascii'))]
     assert sum(len(content) for _, content in files) < 400000
-    wrong = compare_or_write('report_stream', files, arguments == [], 'tests/reports.py')
+    wrong = compare_or_write('crates/report_stream', files, arguments == [], 'tests/reports.py')
     if wrong == 0:
         print('runs %d, reports %d: %s' % (len(runs), sum(seen[name] for name in NAMES),
                                            ', '.join('%s x%d' % (name, seen[name]) for name in NAMES)))

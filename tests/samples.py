@@ -4,11 +4,11 @@
 #   python3 tests/samples.py            writes the files
 #   python3 tests/samples.py --check    compares; ends with 1 if one differs
 
-import os
 import sys
 
+from plans import compare_or_write
 from sheet_cases import A, B, sheet
-from sheets import Line, chance, pairs_of
+from sheets import chance
 
 
 def pairs(m, board):
@@ -98,19 +98,9 @@ def main(arguments):
     if arguments not in ([], ['--check']):
         print('usage: python3 tests/samples.py [--check]', file=sys.stderr)
         return 2
-    folder = os.path.join(os.path.dirname(os.path.dirname(os.path.abspath(__file__))), 'samples')
-    wrong = made = 0
-    for name, content in files():
-        made += 1
-        path = os.path.join(folder, name)
-        if arguments == []:
-            with open(path, 'wb') as file:
-                file.write(content)
-        elif not os.path.exists(path) or open(path, 'rb').read() != content:
-            wrong = 1
-            print('samples/%s differs from what tests/samples.py makes' % name)
-    print('%d samples' % made)
-    return wrong
+    made = list(files())
+    print('%d samples' % len(made))
+    return compare_or_write('samples', made, arguments == [], 'tests/samples.py')
 
 
 if __name__ == '__main__':
