@@ -4,26 +4,8 @@
  *   a report of delay 1400 + N    is taken, and the next plan is refused with N */
 #include "oblachura.h"
 
-uint32_t __real_oblachura_plan(const uint8_t *sheet, size_t sheet_count,
-                               uint64_t *cells, size_t cells_count,
-                               uint8_t *decisions, size_t decisions_count,
-                               uint32_t *delays, size_t delays_count,
-                               uint64_t *answer, size_t answer_count);
-uint32_t __real_oblachura_report(uint8_t *sheet, size_t sheet_count, uint32_t train,
-                                 uint32_t delay, uint64_t *cells, size_t cells_count,
-                                 uint8_t *decisions, size_t decisions_count,
-                                 uint32_t *delays, size_t delays_count,
-                                 uint64_t *answer, size_t answer_count);
-uint32_t __wrap_oblachura_plan(const uint8_t *sheet, size_t sheet_count,
-                               uint64_t *cells, size_t cells_count,
-                               uint8_t *decisions, size_t decisions_count,
-                               uint32_t *delays, size_t delays_count,
-                               uint64_t *answer, size_t answer_count);
-uint32_t __wrap_oblachura_report(uint8_t *sheet, size_t sheet_count, uint32_t train,
-                                 uint32_t delay, uint64_t *cells, size_t cells_count,
-                                 uint8_t *decisions, size_t decisions_count,
-                                 uint32_t *delays, size_t delays_count,
-                                 uint64_t *answer, size_t answer_count);
+extern __typeof__(oblachura_plan) __real_oblachura_plan;
+extern __typeof__(oblachura_report) __real_oblachura_report;
 
 static uint32_t next_plan;
 
