@@ -28,9 +28,10 @@
  *   - two lists of one call do not overlap, unless both are const; a list that a call writes is
  *     used by no other call meanwhile.
  * Nothing else: lists of a wrong length and numbers out of range are refused. Cells, decisions and
- * delays need no clearing before a plan. Sheet and cells belong together: lend a report those that
- * the last accepted plan or report left, and after any other change of the sheet plan anew. On
- * other cells a report's answer is fixed too, but need not be that of a plan.
+ * delays need no clearing before a plan, nor a sheet before it is written. Sheet and cells belong
+ * together: lend a report those that the last accepted plan or report left, and after any other
+ * change of the sheet plan anew. On other cells a report's answer is fixed too, but need not be
+ * that of a plan.
  *
  * What the caller gets: no memory is taken, no file is touched, no pointer is kept after the call,
  * and there is no global state. A call was measured to stay below OBLACHURA_STACK bytes of stack.
