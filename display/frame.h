@@ -4,6 +4,7 @@
 
 #include "oblachura.h"
 #include "page.h"
+#include "refusal.h"
 
 #include <stdbool.h>
 
@@ -21,15 +22,14 @@ struct shown {
     uint64_t total;
 };
 
-/* What fits behind the titles at the foot of a frame. */
+/* What fits behind the title `command`. */
 #define COMMAND_WIDTH 70
-#define ANSWER_WIDTH 70
 
 /* What became of the commands. */
 struct news {
     uint32_t taken, refused, malformed;         /* reports, counted: none passes unseen */
     char command[COMMAND_WIDTH + 1];            /* the last one */
-    char answer[ANSWER_WIDTH + 1];              /* to it, in words */
+    char answer[REFUSAL_ROOM];                  /* to it, in words: the longest are a refusal's */
 };
 
 /* A frame: title, a row for each train, and at the foot, where a long board stays in sight, the

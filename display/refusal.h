@@ -19,7 +19,7 @@ struct pair {
 
 struct pair pair_of_field(uint32_t m, uint64_t field);
 
-/* Number, place and reason on one line, of at most 70 columns. */
+/* Number, place and reason on one line, of at most 70 columns: what fits behind a frame's title. */
 #define REFUSAL_ROOM 71
 void refusal_words(char words[REFUSAL_ROOM], const struct refusal *refusal);
 
