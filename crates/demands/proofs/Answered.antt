@@ -1,5 +1,5 @@
--- Demand 1 of one call: what follows from an outcome of checks that begin with the lengths of the buffers, once for
--- plan and report; and what an accepted plan and an accepted report leave.
+-- Demand 1 of one call of an operation: what follows from an outcome of checks that begin with the lengths of the
+-- buffers, once for plan and report; and what an accepted plan and an accepted report leave.
 -- Assumes nothing.
 use mathlib.Core.Path.{_≡_, sym, ap, subst, _∙_}
 use mathlib.Core.Bool.{true}
@@ -46,7 +46,12 @@ use Rattle.planner.specs.Plan.{planVerdict, Planned, Plan}
 use Rattle.planner.specs.Report.{reportVerdict, Reported, Report}
 use Rattle.planner.proofs.Refusals.{right-of-fine, checks-right, checks-wrong, checks-fine, afterLengthsVerdict}
 use Rattle.planner.proofs.Refusals.{facts-of-fine, fine-of-facts, after-lengths-blanks, own-decides}
+use Rattle.demands.specs.Calling.{Right, operations}
 use Rattle.demands.specs.Answered.{SameLengths, Blanked, Carries, Answered, PlanAnswered, ReportAnswered}
+
+-- an operation is lent nothing beside its buffers
+pub all-right : {b : Buffers} → RightLengths b → Right operations tt b
+all-right right = record { beside = tt; buffers = right }
 
 -- what an accepted call leaves: lengths as stated, nothing written but rows 1 to last, a total within the limit
 record Left (m last : ℕ) (before after : Buffers) (a : Answer) : Type 0 where
@@ -69,7 +74,7 @@ module _ (w : Verdict) (Stored : Type 0) (before after : Buffers) (a : Answer)
   pub zero-of-fine : checks ≡ Fine → answerNumber a ≡ 0
   zero-of-fine fine = h .number ∙ ap numberIn fine
 
-  refused-by : (r : Refusal) → checks ≡ Refused r → Carries r a
+  refused-by : (r : Refusal) → checks ≡ Refused r → Carries operations r a
   refused-by r e =
       record {
         number = h .number ∙ ap numberIn e;
@@ -151,18 +156,20 @@ module _ (w : Verdict) (Stored : Type 0) (before after : Buffers) (a : Answer)
       | inr (r, e) ↦ rw (refused-by r e .total) zero-le
     ]
 
-    answered : Answered checks Passes m last before after a
+    answered : Answered operations checks Passes m last tt before after a
     answered =
         record {
-          accepts = λ right ok. zero-of-fine (checks-right before w right ∙ fine-of ok);
-          accepted-only = λ e. let both = checks-fine before w (fine-of-zero e) in (both .0, passes (both .1));
+          accepts = λ right ok. zero-of-fine (checks-right before w (right .buffers) ∙ fine-of ok);
+          accepted-only = λ e.
+              let both = checks-fine before w (fine-of-zero e) in
+              (all-right (both .0), passes (both .1));
           accepted-place = λ e. h .place ∙ ap placeIn (fine-of-zero e);
-          refuses = refused-by;
-          blanks = blanks-when-refused;
-          untouched = untouched-when-wrong;
+          refuses = λ fits. refused-by;
+          blanks = λ right. blanks-when-refused (right .buffers);
+          untouched = λ wrong. untouched-when-wrong (λ right. wrong (all-right right));
           others = λ e. left-when (fine-of-zero e) .others;
           lengths = lengths-kept;
-          most = total-most;
+          most = λ fits. total-most;
         }
 
 -- ---- of a plan
@@ -181,7 +188,7 @@ planned-left L before after a range right plan =
     }
 
 pub plan-answered : (s : List ℕ) (before after : Buffers) (a : Answer) → Plan s before after a
-    → PlanAnswered s before after a
+    → PlanAnswered operations tt s before after a
 unfolding planVerdict lineOf lineFrom
 plan-answered s before after a h =
     answered (sheetVerdict s) _ before after a h (AcceptedSheet s) _ _ (accepted-of-fine s) (fine-of-accepted s)
@@ -223,8 +230,8 @@ module _ (s : List ℕ) (i v : ℕ) (before : Buffers) (t : List ℕ) (after : B
     abbrev w : Verdict
     w = afterLengthsVerdict s i v (before .cells)
 
-    told : Answered (reportVerdict s i v before) (AcceptedSheet s × Reportable (trainsOf s) i v (before .cells))
-        (trainsOf s) i before after a
+    told : Answered operations (reportVerdict s i v before)
+        (AcceptedSheet s × Reportable (trainsOf s) i v (before .cells)) (trainsOf s) i tt before after a
     unfolding reportVerdict
     told =
         answered w _ before after a (h .outcome) _ _ _ (facts-of-fine s i v (before .cells))
@@ -232,15 +239,15 @@ module _ (s : List ℕ) (i v : ℕ) (before : Buffers) (t : List ℕ) (after : B
         (λ right fine. let both = facts-of-fine s i v (before .cells) fine in
         reported-left right (both .0) (both .1))
 
-    pub report-answered : ReportAnswered s i v before t after a
+    pub report-answered : ReportAnswered operations tt s i v before t after a
     unfolding reportVerdict
     report-answered =
         let own = own-decides s i v before in
         record {
           answered = told;
-          no-train = λ right ok n. told .refuses _ (own right ok ∙ own-no-train _ i v _ n);
-          too-late = λ right ok x y late. told .refuses _ (own right ok ∙ own-too-late _ i v _ x y late);
-          over = λ right ok x y z k f. told .refuses _ (own right ok ∙ own-over _ i v _ x y z k f);
+          no-train = λ right ok n. told .refuses tt _ (own (right .buffers) ok ∙ own-no-train _ i v _ n);
+          too-late = λ right ok a b late. told .refuses tt _ (own (right .buffers) ok ∙ own-too-late _ i v _ a b late);
+          over = λ right ok a b c k f. told .refuses tt _ (own (right .buffers) ok ∙ own-over _ i v _ a b c k f);
           sheet = λ refused. elim (fine-or-refused (reportVerdict s i v before)) [
             | inl fine ↦ absurd (refused (zero-of-fine w _ before after a (h .outcome) fine))
             | inr (r, e) ↦ h .kept r e

@@ -1,4 +1,4 @@
--- Demands 1 and 2, from the contracts alone. The decision bytes show the policy of the contract on trains 2 to m, and
+-- Demands 1 and 2 of the operations, from their contracts alone. The decision bytes show the policy of the contract on trains 2 to m, and
 -- nothing else of a policy is ever read.
 -- Assumes nothing.
 use mathlib.Core.Path.{_≡_, refl, sym, ap, subst, _∙_}
@@ -30,20 +30,21 @@ use Rattle.planner.specs.Outcome.{answerTotal}
 use Rattle.planner.specs.Plan.{planVerdict, Planned}
 use Rattle.planner.proofs.Refusals.{accepted-of-plan}
 use Rattle.planner.proofs.Outcome.{plan-outcome-one, report-outcome-one}
+use Rattle.demands.specs.Calling.{operations}
 use Rattle.demands.specs.Answered.{Demand1}
-use Rattle.demands.specs.Least.{policyIn, LeastPlan, Demand2}
+use Rattle.demands.specs.Least.{policyIn, LeastPlan, Demand2, OneMeaning}
 use Rattle.demands.proofs.Answered.{fine-of-zero, plan-answered, report-answered}
 use Rattle.demands.proofs.Possible.{plan-possible, report-possible}
 
-pub demand-1 : Demand1
+pub demand-1 : Demand1 operations
 demand-1 =
     record {
-      every-sheet = plan-possible;
-      every-report = report-possible;
-      one-plan = plan-outcome-one;
-      one-report = report-outcome-one;
-      of-plan = plan-answered;
-      of-report = report-answered;
+      every-sheet = λ x. plan-possible;
+      every-report = λ x. report-possible;
+      one-plan = λ x. plan-outcome-one;
+      one-report = λ x. report-outcome-one;
+      of-plan = λ x. plan-answered;
+      of-report = λ x. report-answered;
     }
 
 -- ---- demand 2
@@ -74,7 +75,7 @@ module _ (L : Line) (before after : Buffers) (a : Answer) (few : L .trains ≤ 6
   days : DaysAlike 1 (L .trains) (dayOf (L .running) (plan .policy)) (dayOf (L .running) shows)
   days = same-days L L (plan .policy) shows (lines-alike-refl 1 L) agrees
 
-  least-plan : LeastPlan L after a
+  least-plan : LeastPlan L after (answerTotal a)
   least-plan =
       record {
         told = ap answerTotal (plan .answer) ∙ same-total L L (plan .policy) shows (lines-alike-refl 1 L) agrees;
@@ -87,14 +88,19 @@ module _ (L : Line) (before after : Buffers) (a : Answer) (few : L .trains ≤ 6
             (cell-means L _ _ (plan .cells .worked) k l u v (omega arith));
       }
 
-pub demand-2 : Demand2
+pub demand-2 : Demand2 operations
 unfolding planVerdict lineOf lineFrom
 demand-2 =
     record {
-      accepted-plan-is-least = λ s before after a h zero.
+      accepted-plan-is-least = λ x s before after a h zero.
           let fine = fine-of-zero (sheetVerdict s) _ before after a h zero in
           let sheet = accepted-of-plan s before fine .1 in
           least-plan (lineOf (numbersOf s)) before after a (sheet .numbers .trains-most) (h .accepted fine);
+    }
+
+pub one-meaning : OneMeaning
+one-meaning =
+    record {
       read-then-write = read-then-write;
       write-then-read = write-then-read;
       equal-fields = equal-fields;

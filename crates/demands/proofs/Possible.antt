@@ -41,6 +41,7 @@ use Rattle.planner.specs.Report.{reportVerdict}
 use Rattle.planner.proofs.Refusals.{accepted-of-plan, accepted-of-report}
 use Rattle.planner.proofs.Taken.{settled-planned}
 use Rattle.planner.proofs.Outcome.{outcome-accepted, outcome-refused}
+use Rattle.demands.specs.Calling.{operations}
 use Rattle.demands.specs.Answered.{PlanPossible, ReportPossible}
 
 -- ---- the cells with rows 1 to t worked
@@ -165,7 +166,7 @@ refuses r before = record { answer = refl; decisions = refl; delays = refl; cell
 
 -- ---- plan
 
-pub plan-possible : (s : List ℕ) (before : Buffers) → PlanPossible s before
+pub plan-possible : (s : List ℕ) (before : Buffers) → PlanPossible operations tt s before
 unfolding lineOf lineFrom
 plan-possible s before = elim (fine-or-refused (planVerdict s before)) [
   | inl fine ↦
@@ -196,7 +197,7 @@ module _ (s : List ℕ) (bytes : Bytes s) (i v : ℕ) (before : Buffers) where
       let found = puttable s _ 11 v bytes (room .within .inside) (omega arith) in
       (found .result, record { bytes = found .bytes; put = found .put })
 
-  when-fine : reportVerdict s i v before ≡ Fine → ReportPossible s i v before
+  when-fine : reportVerdict s i v before ≡ Fine → ReportPossible operations tt s i v before
   unfolding lineOf lineFrom
   when-fine fine =
       let told = accepted-of-report s i v before fine in
@@ -215,7 +216,7 @@ module _ (s : List ℕ) (bytes : Bytes s) (i v : ℕ) (before : Buffers) where
         };
       }
 
-  pub report-possible : ReportPossible s i v before
+  pub report-possible : ReportPossible operations tt s i v before
   report-possible = elim (fine-or-refused (reportVerdict s i v before)) [
     | inl fine ↦ when-fine fine
     | inr (r, e) ↦

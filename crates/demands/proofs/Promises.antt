@@ -1,7 +1,7 @@
 -- All promises of plan and report are kept.
 -- Assumes nothing.
 use Rattle.demands.specs.Promises.{Promises}
-use Rattle.demands.proofs.Demands.{demand-1, demand-2}
+use Rattle.demands.proofs.Demands.{demand-1, demand-2, one-meaning}
 use Rattle.demands.proofs.Runs.{demand-3}
 use Rattle.demands.proofs.Sheets.{answers-a, answers-b, answers-b13}
 use Rattle.demands.proofs.Reports.{answers-b7, answers-b8}
@@ -14,6 +14,7 @@ promises =
     record {
       first-demand = demand-1;
       second-demand = demand-2;
+      one-meaning = one-meaning;
       third-demand = demand-3;
       sheet-a = answers-a;
       sheet-b = answers-b;

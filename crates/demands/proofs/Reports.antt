@@ -26,7 +26,9 @@ use Rattle.settle.proofs.Lines.{lines-of-same}
 use Rattle.planner.specs.declared.Answer.{Answer}
 use Rattle.planner.specs.Outcome.{answerNumber}
 use Rattle.demands.specs.Sheets.{sheetB, Leaves, ReportAfterB4, AnswersB7, AnswersB8}
+use Rattle.demands.specs.Calling.{operations}
 use Rattle.demands.specs.Runs.{InRun, planned, reported, ReportInRun}
+use Rattle.demands.proofs.Answered.{all-right}
 use Rattle.demands.proofs.Runs.{demand-3}
 use Rattle.demands.proofs.Printed.{pairRows, lines-same, Printed, leaves}
 use Rattle.demands.proofs.Sheets.{sheet-b-accepted, printed, answers-b}
@@ -54,7 +56,7 @@ trains-b = refl
 -- a report of a run whose numbers then are N leaves what is printed for the line of N
 module _ (N : Numbers) (M : Line) (x : CaseAnswer) (line : LinesAlike 1 (lineOf N) M) (print : Printed M x) where
   report-leaves : (s : List ℕ) (i v : ℕ) (before : Buffers) (t : List ℕ) (after : Buffers) (a : Answer)
-      → RightLengths before → answerNumber a ≡ 0 → ReportInRun s i v before t after a
+      → RightLengths before → answerNumber a ≡ 0 → ReportInRun operations tt s i v before t after a
       → SameNumbers (numbersOf t) N → Leaves (M .trains) x after a
   report-leaves s i v before t after a right zero run same =
       leaves t M x (fine-of-accepted t (run .stands))
@@ -62,19 +64,19 @@ module _ (N : Numbers) (M : Line) (x : CaseAnswer) (line : LinesAlike 1 (lineOf 
 
 module _ (after4 : Buffers) (a4 : Answer) (t : List ℕ) (before after : Buffers) (a : Answer)
     (h : ReportAfterB4 after4 a4 t before after a) where
-  run-b4 : InRun sheetB (before .cells)
+  run-b4 : InRun operations sheetB (before .cells)
   run-b4 =
       let zero = ap answerNumber (answers-b (h .lent) after4 a4 (h .lent-right) (h .plan) .answer) in
-      subst (InRun sheetB) (sym (h .cells)) (planned sheetB (h .lent) after4 a4 (h .plan) zero)
+      subst (InRun operations sheetB) (sym (h .cells)) (planned tt sheetB (h .lent) after4 a4 (h .plan) zero)
 
-  run-b7 : InRun t (after .cells)
-  run-b7 = reported sheetB 1 5 before t after a run-b4 (h .report)
+  run-b7 : InRun operations t (after .cells)
+  run-b7 = reported tt sheetB 1 5 before t after a run-b4 (h .report)
 
-  step-b7 : ReportInRun sheetB 1 5 before t after a
-  step-b7 = demand-3 .of-report-in-run sheetB 1 5 before t after a run-b4 (h .report)
+  step-b7 : ReportInRun operations tt sheetB 1 5 before t after a
+  step-b7 = demand-3 .of-report-in-run tt sheetB 1 5 before t after a run-b4 (h .report)
 
   zero-b7 : answerNumber a ≡ 0
-  zero-b7 = step-b7 .accepts (h .right) (omega arith) (omega (arith, trains-b)) (omega arith)
+  zero-b7 = step-b7 .accepts (all-right (h .right)) (omega arith) (omega (arith, trains-b)) (omega arith)
 
   same-b7 : SameNumbers (numbersOf t) numbersB7
   same-b7 =
@@ -91,11 +93,11 @@ answers-b7 after4 a4 t before after a h =
 pub answers-b8 : AnswersB8
 unfolding lineFrom
 answers-b8 after4 a4 t before7 after7 a7 u before after a h cells right report =
-    let run = subst (InRun t) (sym cells) (run-b7 after4 a4 t before7 after7 a7 h) in
-    let step = demand-3 .of-report-in-run t 2 6 before u after a run report in
+    let run = subst (InRun operations t) (sym cells) (run-b7 after4 a4 t before7 after7 a7 h) in
+    let step = demand-3 .of-report-in-run tt t 2 6 before u after a run report in
     let same = same-b7 after4 a4 t before7 after7 a7 h in
     let second : 2 ≤ trainsOf t = omega (arith, same .trains, trains-b) in
-    let zero = step .accepts right (omega arith) second (omega arith) in
+    let zero = step .accepts (all-right right) (omega arith) second (omega arith) in
     let ok = step-b7 after4 a4 t before7 after7 a7 h .stands in
     let new = replaced-numbers t u 2 6 ok (omega arith) second (step .field zero) in
     report-leaves numbersB8 _ _ line-of-b8 (printed .case-b8) t 2 6 before u after a right zero step

@@ -1,4 +1,4 @@
--- Demand 3, from the contracts alone. In a run the sheet is always accepted and the cells in use are its plan's; so no
+-- Demand 3 of the operations, from their contracts alone. In a run the sheet is always accepted and the cells in use are its plan's; so no
 -- cell is over the limit, and rows 1 to a train worked anew are the whole plan of the sheet as it then stands.
 -- Assumes nothing.
 use mathlib.Core.Path.{_≡_, refl, sym, ap, subst, _∙_}
@@ -37,16 +37,17 @@ use Rattle.settle.specs.Buffers.{Buffers, RightLengths}
 use Rattle.settle.specs.Settled.{Settled}
 use Rattle.settle.proofs.Lines.{line-in-range, lines-after}
 use Rattle.planner.specs.declared.Answer.{Answer}
-use Rattle.planner.specs.Outcome.{answerNumber, answerTotal}
+use Rattle.planner.specs.Outcome.{answerNumber, answerTotal, Outcome}
 use Rattle.planner.specs.Plan.{planVerdict, Planned, Plan}
 use Rattle.planner.specs.Report.{reportVerdict, Reported, Report}
 use Rattle.planner.proofs.Refusals.{buffers-refusal, checks-right, accepted-of-plan, afterLengthsVerdict, fine-of-facts}
 use Rattle.planner.proofs.Refusals.{accepted-of-report}
 use Rattle.planner.proofs.Taken.{settled-planned}
 use Rattle.planner.proofs.Outcome.{outcome-accepted, planned-same}
-use Rattle.demands.specs.Runs.{InRun, planned, reported, refused-elsewhere, Agrees, OfItself, ReportInRun}
-use Rattle.demands.specs.Runs.{Begun, Demand3}
-use Rattle.demands.proofs.Answered.{fine-of-zero, zero-of-fine, plan-answered, report-answered}
+use Rattle.demands.specs.Calling.{Right, operations}
+use Rattle.demands.specs.Runs.{InRun, planned, reported, refused-with-other-cells, refused-with-other-sheet}
+use Rattle.demands.specs.Runs.{refused-plan, Agrees, OfItself, ReportInRun, Begun, Demand3}
+use Rattle.demands.proofs.Answered.{all-right, fine-of-zero, zero-of-fine, plan-answered, report-answered}
 use Rattle.demands.proofs.Possible.{plan-possible}
 
 -- ---- what stands in a run: an accepted sheet, and the cells in use of its plan
@@ -99,12 +100,12 @@ whole-settled B i before after n most settled worked =
 
 -- two plans of one line agree in all that is in use
 planned-agrees : (L : Line) (before after b b′ : Buffers) (a a′ : Answer) → answerNumber a′ ≡ 0
-    → Planned L before after a → Planned L b b′ a′ → Agrees (L .trains) after a b′ a′
+    → Planned L before after a → Planned L b b′ a′ → Agrees operations (L .trains) after a b′ a′
 planned-agrees L before after b b′ a a′ zero P Q =
     let same = planned-same L before after b b′ a a′ P Q in
     record {
       accepted = zero;
-      total = same .0;
+      total = ap answerTotal (same .0);
       decisions = same .1;
       delays = same .2;
       cells = λ k l u v w.
@@ -114,7 +115,31 @@ planned-agrees L before after b b′ a a′ zero P Q =
           ∙ table-in (L .trains) (b′ .cells) k l w;
     }
 
+-- a refused call, with whatever checks, leaves the cells
+refused-cells : {checks : Verdict} {Stored : Type 0} {before after : Buffers} {a : Answer}
+    → Outcome checks Stored before after a → ¬ (answerNumber a ≡ 0) → after .cells ≡ before .cells
+refused-cells {checks} h refused = elim (fine-or-refused checks) [
+  | inl fine ↦ absurd (refused (h .number ∙ ap numberIn fine))
+  | inr (r, e) ↦ h .refused r e .cells
+]
+
 -- ---- one report
+
+module _ (s : List ℕ) (i v : ℕ) (before : Buffers) (standing : Standing s (before .cells)) where
+  -- neither the sheet nor the later rows refuse
+  refusals : (r : Refusal) → reportVerdict s i v before ≡ Refused r → OfItself i r
+  unfolding reportVerdict ownVerdict
+  refusals =
+      let P : Refusal → Type 0 = OfItself i in
+      let silent : (w : Verdict) → w ≡ Fine → Only P w = λ w fine r e. refused-not-fine (sym e ∙ fine) in
+      let later = fine-of-later (trainsOf s) i v (before .cells)
+      (λ k l x y z. within s (before .cells) standing k l (omega arith) y z) in
+      only-then P _ _ (λ r e. inl (sym (buffers-refusal before r e)))
+      (only-then P (sheetVerdict s) _ (silent _ (fine-of-accepted s (standing .ok)))
+      (only-then P _ _ (only-below P _ _ _ (inr (inl refl)))
+      (only-then P _ _ (only-below P _ _ _ (inr (inl refl)))
+      (only-then P _ _ (only-below P _ _ _ (inr (inr refl)))
+      (silent _ later)))))
 
 module _ (s : List ℕ) (i v : ℕ) (before : Buffers) (t : List ℕ) (after : Buffers) (a : Answer)
     (standing : Standing s (before .cells)) (h : Report s i v before t after a) where
@@ -139,21 +164,6 @@ module _ (s : List ℕ) (i v : ℕ) (before : Buffers) (t : List ℕ) (after : B
       zero
       (checks-right before (afterLengthsVerdict s i v (before .cells)) right
       ∙ fine-of-facts s i v (before .cells) (standing .ok) report)
-
-  -- neither the sheet nor the later rows refuse
-  refusals : (r : Refusal) → reportVerdict s i v before ≡ Refused r → OfItself i r
-  unfolding reportVerdict ownVerdict
-  refusals =
-      let P : Refusal → Type 0 = OfItself i in
-      let silent : (w : Verdict) → w ≡ Fine → Only P w = λ w fine r e. refused-not-fine (sym e ∙ fine) in
-      let later = fine-of-later (trainsOf s) i v (before .cells)
-      (λ k l x y z. within s (before .cells) standing k l (omega arith) y z) in
-      only-then P _ _ (λ r e. inl (sym (buffers-refusal before r e)))
-      (only-then P (sheetVerdict s) _ (silent _ (fine-of-accepted s (standing .ok)))
-      (only-then P _ _ (only-below P _ _ _ (inr (inl refl)))
-      (only-then P _ _ (only-below P _ _ _ (inr (inl refl)))
-      (only-then P _ _ (only-below P _ _ _ (inr (inr refl)))
-      (silent _ later)))))
 
   refused-keeps : ¬ (answerNumber a ≡ 0) → (t ≡ s) × (after .cells ≡ before .cells)
   refused-keeps refused = elim (fine-or-refused (reportVerdict s i v before)) [
@@ -201,7 +211,8 @@ module _ (s : List ℕ) (i v : ℕ) (before : Buffers) (t : List ℕ) (after : B
         outcome-accepted _ _ before after a
         (sym (checks-right before (sheetVerdict t) (told .0) ∙ fine-of-accepted t ok)) (done .answer) is-planned
 
-    fresh : (b b′ : Buffers) (a′ : Answer) → RightLengths b → Plan t b b′ a′ → Agrees (trainsOf t) after a b′ a′
+    fresh : (b b′ : Buffers) (a′ : Answer) → RightLengths b → Plan t b b′ a′
+        → Agrees operations (trainsOf t) after a b′ a′
     unfolding planVerdict lineOf lineFrom
     fresh b b′ a′ right plan =
         let fine′ = checks-right b (sheetVerdict t) right ∙ fine-of-accepted t ok in
@@ -221,15 +232,15 @@ module _ (s : List ℕ) (i v : ℕ) (before : Buffers) (t : List ℕ) (after : B
     | inr (r, e) ↦ rw (h .kept r e, h .outcome .refused r e .cells) standing
   ]
 
-  in-run : ReportInRun s i v before t after a
+  in-run : ReportInRun operations tt s i v before t after a
   in-run =
       record {
-        accepts = accepts;
+        accepts = λ right. accepts (right .buffers);
         accepted-only = λ e.
             let told = accepted-of-report s i v before (checked e) in
-            (told .0, told .2 .least, told .2 .most, told .2 .delay);
-        refusals = refusals;
-        fresh = λ e. fresh (checked e);
+            (all-right (told .0), told .2 .least, told .2 .most, told .2 .delay);
+        refusals = refusals s i v before standing;
+        fresh = λ e y b b′ a′ right. fresh (checked e) b b′ a′ (right .buffers);
         plan = λ e. is-plan (checked e);
         field = λ e. h .outcome .accepted (checked e) .sheet;
         rows = λ p unused. elim (fine-or-refused (reportVerdict s i v before)) [
@@ -242,13 +253,25 @@ module _ (s : List ℕ) (i v : ℕ) (before : Buffers) (t : List ℕ) (after : B
 
 -- ---- every run
 
-standing-in-run : {s cells : List ℕ} → InRun s cells → Standing s cells
-standing-in-run (planned s before after a h zero) = planned-stands s before after a h zero
-standing-in-run (reported s i v before t after a run h) = stands s i v before t after a (standing-in-run run) h
-standing-in-run (refused-elsewhere s cells i v before t after a run h refused) =
+standing-in-run : {s cells : List ℕ} → InRun operations s cells → Standing s cells
+standing-in-run (planned x s before after a h zero) = planned-stands s before after a h zero
+standing-in-run (reported x s i v before t after a run h) = stands s i v before t after a (standing-in-run run) h
+standing-in-run (refused-with-other-cells x s cells i v before t after a run h refused) =
     rw (report-answered s i v before t after a h .sheet refused) (standing-in-run run)
+standing-in-run (refused-with-other-sheet x s other i v before t after a run h refused) =
+    rw (refused-cells (h .outcome) refused) (standing-in-run run)
+standing-in-run (refused-plan x s other before after a run h refused) =
+    rw (refused-cells h refused) (standing-in-run run)
 
-begin : (s : List ℕ) (lent : Buffers) → AcceptedSheet s → RightLengths lent → Begun s lent
+-- plan accepts the sheet of a run, and a report in it is refused for itself alone
+pub run-accepted : {s cells : List ℕ} → InRun operations s cells → AcceptedSheet s
+run-accepted run = standing-in-run run .ok
+
+pub run-refusals : (s : List ℕ) (i v : ℕ) (before : Buffers) → InRun operations s (before .cells) → (r : Refusal)
+    → reportVerdict s i v before ≡ Refused r → OfItself i r
+run-refusals s i v before run = refusals s i v before (standing-in-run run)
+
+begin : (s : List ℕ) (lent : Buffers) → AcceptedSheet s → Right operations tt lent → Begun operations tt s lent
 begin s lent ok right =
     let found = plan-possible s lent in
     let zero = plan-answered s lent (found .after) (found .answer) (found .plan) .accepts right ok in
@@ -256,12 +279,12 @@ begin s lent ok right =
       after = found .after;
       answer = found .answer;
       plan = found .plan;
-      run = planned s lent (found .after) (found .answer) (found .plan) zero;
+      run = planned tt s lent (found .after) (found .answer) (found .plan) zero;
     }
 
-pub demand-3 : Demand3
+pub demand-3 : Demand3 operations
 demand-3 =
     record {
-      begins = begin;
-      of-report-in-run = λ s i v before t after a run. in-run s i v before t after a (standing-in-run run);
+      begins = λ x. begin;
+      of-report-in-run = λ x s i v before t after a run. in-run s i v before t after a (standing-in-run run);
     }

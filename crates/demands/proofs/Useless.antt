@@ -19,7 +19,7 @@ use Rattle.demands.specs.Useless.{RefusesAllBreaks, SameDecisionsBreak, 
 use Rattle.demands.specs.Useless.{StaysBlankBreaks, RepeatsPlanBreaks, WritesEarlyBreaks}
 use Rattle.demands.proofs.Sheets.{sheet-b-accepted, answers-b, answers-b13}
 use Rattle.demands.proofs.Reports.{trains-b, answers-b7}
-use Rattle.demands.proofs.Answered.{report-answered}
+use Rattle.demands.proofs.Answered.{all-right, report-answered}
 
 -- byte 2 of 64, the first three of which are given
 byte-two : (bytes ds : List ℕ) → bytes ≡ padded 64 3 (nth ds) → nth bytes 2 ≡ nth ds 2
@@ -76,5 +76,5 @@ writes-early-breaks before after t a k right first h =
     let told = report-answered sheetB 1 5 before t after a h in
     let ok = accepted-of-fine sheetB sheet-b-accepted in
     let over = subst (λ (m : ℕ). FirstOver m 1 (before .cells) k) (sym trains-b) first in
-    let twelve = told .over right ok (omega arith) (omega (arith, trains-b)) (omega arith) k over in
+    let twelve = told .over (all-right right) ok (omega arith) (omega (arith, trains-b)) (omega arith) k over in
     (twelve, told .sheet (λ zero. absurd (omega (arith, zero, twelve .number))))

@@ -1,8 +1,9 @@
 -- Demand 2: the least total, the earliest connection kept, each accepted sheet with one meaning. The statements are
--- about the contract `Plan`, and of the last sentence about those of read and write (meaning/specs/OneMeaning).
+-- about what plan promises, called in any way (Calling), and of the last sentence about read and write
+-- (meaning/specs/OneMeaning).
 --   policyIn bytes            the policy that decision bytes show
---   LeastPlan L after a       what demand 2 says of one accepted plan, of the line L
---   Demand2                   the demand
+--   LeastPlan L after n       what demand 2 says of one accepted plan of the line L that answers the total n
+--   Demand2 C                 the demand
 -- Assumes nothing.
 use Prim.Native.Nat.{ℕ, _≤_}
 use mathlib.Core.Path.{_≡_}
@@ -20,17 +21,15 @@ use Rattle.cells.specs.Place.{place}
 use Rattle.cells.specs.Shown.{shown}
 use Rattle.settle.specs.LineOf.{lineOf}
 use Rattle.settle.specs.Buffers.{Buffers}
-use Rattle.planner.specs.declared.Answer.{Answer}
-use Rattle.planner.specs.Outcome.{answerNumber, answerTotal}
-use Rattle.planner.specs.Plan.{Plan}
+use Rattle.demands.specs.Calling.{Calling}
 
 -- byte i, from 1: 1 is keep, anything else go
 unfoldable pub policyIn : List ℕ → Policy
 policyIn bytes i = ifSame (nth bytes i) 1 Keep Go
 
-pub record LeastPlan (L : Line) (after : Buffers) (a : Answer) : Type 0 where
+pub record LeastPlan (L : Line) (after : Buffers) (n : ℕ) : Type 0 where
   -- The total is that of the decisions shown,
-  pub told : answerTotal a ≡ total L (policyIn (after .decisions))
+  pub told : n ≡ total L (policyIn (after .decisions))
   -- the least of all wait-or-depart policies.
   pub least : (q : Policy) → total L (policyIn (after .decisions)) ≤ total L q
   -- Among equals it is the one that keeps the earliest connection.
@@ -42,10 +41,12 @@ pub record LeastPlan (L : Line) (after : Buffers) (a : Answer) : Type 0 where
   -- Each cell in use is what document 01 says that it is.
   pub cells : (k l : ℕ) → 1 ≤ k → k ≤ l → l ≤ L .trains → IsCell L k l (getD (after .cells) (place (L .trains) k l) 0)
 
-pub record Demand2 : Type 0 where
-  pub accepted-plan-is-least : (s : List ℕ) (before after : Buffers) (a : Answer) → Plan s before after a
-      → answerNumber a ≡ 0 → LeastPlan (lineOf (numbersOf s)) after a
-  -- Sheets are read and written so that each accepted sheet has one meaning and comes back bit for bit.
+pub record Demand2 (C : Calling) : Type 0 where
+  pub accepted-plan-is-least : (x : C .Beside) (s : List ℕ) (before after : Buffers) (a : C .Result)
+      → C .plan x s before after a → C .number a ≡ 0 → LeastPlan (lineOf (numbersOf s)) after (C .total a)
+
+-- Sheets are read and written so that each accepted sheet has one meaning and comes back bit for bit.
+pub record OneMeaning : Type 0 where
   pub read-then-write : ReadThenWrite
   pub write-then-read : WriteThenRead
   pub equal-fields : EqualFields

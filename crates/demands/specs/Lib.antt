@@ -1,3 +1,4 @@
+pub mod Calling
 pub mod Answered
 pub mod Least
 pub mod Runs

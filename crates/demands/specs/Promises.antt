@@ -2,17 +2,19 @@
 -- to say".
 --   Promises   that record
 -- Assumes nothing.
+use Rattle.demands.specs.Calling.{operations}
 use Rattle.demands.specs.Answered.{Demand1}
-use Rattle.demands.specs.Least.{Demand2}
+use Rattle.demands.specs.Least.{Demand2, OneMeaning}
 use Rattle.demands.specs.Runs.{Demand3}
 use Rattle.demands.specs.Sheets.{AnswersA, AnswersB, AnswersB13, AnswersB7, AnswersB8}
 use Rattle.demands.specs.Useless.{RefusesAllBreaks, SameDecisionsBreak, AllKeepBreaks, DoesNothingBreaks}
 use Rattle.demands.specs.Useless.{StaysBlankBreaks, RepeatsPlanBreaks, WritesEarlyBreaks}
 
 pub record Promises : Type 0 where
-  pub first-demand : Demand1
-  pub second-demand : Demand2
-  pub third-demand : Demand3
+  pub first-demand : Demand1 operations
+  pub second-demand : Demand2 operations
+  pub one-meaning : OneMeaning
+  pub third-demand : Demand3 operations
   -- cases a, b4, b6, b7 and b8
   pub sheet-a : AnswersA
   pub sheet-b : AnswersB

@@ -26,6 +26,7 @@ use Rattle.settle.specs.Buffers.{Buffers, RightLengths}
 use Rattle.amend.specs.Checks.{FirstOver}
 use Rattle.planner.specs.Plan.{Plan}
 use Rattle.planner.specs.Report.{Report}
+use Rattle.demands.specs.Calling.{operations}
 use Rattle.demands.specs.Answered.{Carries}
 use Rattle.demands.specs.Sheets.{sheetB, sheetB13, decisionBytes, ReportAfterB4}
 
@@ -79,4 +80,4 @@ WritesEarlyBreaks =
     → RightLengths before
     → FirstOver 3 1 (before .cells) k
     → Report sheetB 1 5 before t after a
-    → Carries (CellOverLimit k) a × (t ≡ sheetB)
+    → Carries operations (CellOverLimit k) a × (t ≡ sheetB)
