@@ -1,4 +1,7 @@
 pub mod Stores
 pub mod Call
 pub mod Refused
+pub mod Answered
+pub mod Runs
+pub mod Demands
 pub mod Promises

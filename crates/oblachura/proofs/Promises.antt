@@ -12,11 +12,11 @@ use Rattle.settle.specs.Buffers.{Buffers}
 use Rattle.planner.specs.Report.{reportVerdict}
 use Rattle.reader.proofs.Outcome.{read-one}
 use Rattle.writer.proofs.Outcome.{write-one}
-use Rattle.planner.proofs.Outcome.{plan-outcome-one, report-outcome-one}
-use Rattle.oblachura.specs.Calls.{PlanCall, Lent, lent, ReportCall}
+use Rattle.oblachura.specs.Calls.{PlanCall, Lent, ReportCall}
 use Rattle.oblachura.specs.Promises.{Refuses, Promises}
 use Rattle.oblachura.proofs.Call.{call-one, call-returns}
 use Rattle.oblachura.proofs.Refused.{kept-refuses, outcome-refuses}
+use Rattle.oblachura.proofs.Demands.{demands}
 
 plan-refuses : (s : List ℕ) (before : Buffers) (list : List ℕ) (after : Buffers) (stored : List ℕ) (r : ℕ)
     → PlanCall s before list after stored r → Refuses before after r
@@ -47,13 +47,9 @@ report-refuses i v before list after stored r h = elim (same-or-not (length list
 pub promises : Promises
 promises =
     record {
+      demands = demands;
       one-read = λ s before list. call-one (read-one s before);
       one-write = λ G before list. call-one (write-one G before);
-      one-plan = λ s before list. call-one (plan-outcome-one s before);
-      one-report = λ i v before list.
-          call-one (λ after after′ a a′ g h.
-          let same = report-outcome-one (before .sheet) i v (before .buffers) _ _ _ _ a a′ g h in
-          (same .0, λ k. lent (same .1 k) (same .2 k)));
       read-returns = λ s before list after stored r. call-returns _ (λ a g. g .number);
       write-returns = λ G before list after stored r. call-returns _ (λ a g. g .number);
       plan-returns = λ s before list after stored r. call-returns _ (λ a g. g .number);

@@ -1,6 +1,6 @@
--- What a program in C may rely on, whatever keeps the four contracts: they leave nothing open; 0 is returned exactly
--- where the operation accepts; and what a display must not paint is not there, or is what stood there before. Document
--- 01, "Numbers of refusal" and "What the contracts have to say".
+-- What a program in C may rely on, whatever keeps the four contracts: the three demands; that nothing is left open; that
+-- 0 is returned exactly where the operation accepts; and that what a display must not paint is not there, or is what
+-- stood there before. Document 01, "Numbers of refusal" and "What the contracts have to say".
 --   One Leaves                   no two differing results: Leaves after stored r says what a call leaves and returns
 --   Returns n list checks r      r by the length of the list and by the checks
 --   Refuses before after r       what a plan or a report leaves that returned another number than 0
@@ -21,6 +21,7 @@ use Rattle.planner.specs.Plan.{planVerdict}
 use Rattle.planner.specs.Report.{reportVerdict}
 use Rattle.demands.specs.Answered.{Blanked}
 use Rattle.oblachura.specs.Calls.{ReadCall, WriteCall, PlanCall, Lent, ReportCall}
+use Rattle.oblachura.specs.Demands.{Demands}
 
 abbrev pub One : {X : Type 0} → (X → List ℕ → ℕ → Type 0) → Type 0
 One {X} Leaves = (after after′ : X) (stored stored′ : List ℕ) (r r′ : ℕ) → Leaves after stored r
@@ -40,10 +41,10 @@ pub record Refuses (before after : Buffers) (r : ℕ) : Type 0 where
   pub blanks : ¬ (r ≡ 0) → ¬ (r ≡ 10) → Blanked before after
 
 pub record Promises : Type 0 where
+  -- Of plan and report the three demands; the first says that they leave nothing open.
+  pub demands : Demands
   pub one-read : (s : List ℕ) (before : Lists) (list : List ℕ) → One (ReadCall s before list)
   pub one-write : (G : Given) (before list : List ℕ) → One (WriteCall G before list)
-  pub one-plan : (s : List ℕ) (before : Buffers) (list : List ℕ) → One (PlanCall s before list)
-  pub one-report : (i v : ℕ) (before : Lent) (list : List ℕ) → One (ReportCall i v before list)
   pub read-returns : (s : List ℕ) (before : Lists) (list : List ℕ) (after : Lists) (stored : List ℕ) (r : ℕ)
       → ReadCall s before list after stored r → Returns 4 list (readVerdict s before) r
   pub write-returns : (G : Given) (before list after stored : List ℕ) (r : ℕ)
