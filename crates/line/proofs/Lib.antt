@@ -12,6 +12,7 @@ pub mod Alike
 pub mod Tables
 pub mod Worked
 pub mod Plan
+pub mod Listing
 pub mod Bounds
 pub mod Totals
 pub mod Base

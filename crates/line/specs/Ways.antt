@@ -28,7 +28,7 @@ pub record Answer : Type 0 where
   pub rows : Rows
 
 -- train 2's decision is the first; keep after the last
-abbrev policyFrom : List Decision → Policy
+abbrev pub policyFrom : List Decision → Policy
 policyFrom ds i = getD ds (i - 2) Keep
 
 -- (k, l) is entry l - k + 1 of row k, and 0 after the last
