@@ -15,7 +15,7 @@ use Rattle.line.specs.Line.{Line, lineFrom}
 use Rattle.line.specs.Policy.{Policy, arrival, total}
 use Rattle.line.specs.Cells.{Table, bookOf, cellBy, Worked, decide}
 use Rattle.line.specs.Alike.{LinesAlike}
-use Rattle.line.specs.Ways.{Rows, tableFrom, Answer as CaseAnswer}
+use Rattle.line.specs.Answers.{Rows, tableFrom, Answer as CaseAnswer}
 use Rattle.line.proofs.Days.{same-days, same-total}
 use Rattle.line.proofs.Alike.{books-of-lines}
 use Rattle.line.proofs.Tables.{worked-for-alike, worked-one}

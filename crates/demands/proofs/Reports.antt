@@ -10,7 +10,7 @@ use Rattle.lists.specs.Run.{runOf, listed}
 use Rattle.bits.specs.Field.{bitAt, fieldOf}
 use Rattle.line.specs.Line.{Line, lineFrom}
 use Rattle.line.specs.Alike.{LinesAlike}
-use Rattle.line.specs.Ways.{Answer as CaseAnswer}
+use Rattle.line.specs.Answers.{Answer as CaseAnswer}
 use Rattle.line.specs.Cases.{lineB, delaysB7, delaysB8}
 use Rattle.line.proofs.Days.{lines-alike-trans}
 use Rattle.sheet.specs.Format.{trainsOf, entry}

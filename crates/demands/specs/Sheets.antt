@@ -14,7 +14,7 @@ use mathlib.Core.Path.{_≡_}
 use mathlib.Core.List.{List, [], _∷_, map}
 use lib.ListN.{getD}
 use Rattle.lists.specs.Run.{nth, padded}
-use Rattle.line.specs.Ways.{tableFrom, Answer as CaseAnswer}
+use Rattle.line.specs.Answers.{tableFrom, Answer as CaseAnswer}
 use Rattle.line.specs.Cases.{a as caseA, b4, b6, b7, b8}
 use Rattle.sheet.specs.SheetA.{sheetA}
 use Rattle.cells.specs.Place.{place}

@@ -16,4 +16,5 @@ pub mod Listing
 pub mod Bounds
 pub mod Totals
 pub mod Base
+pub mod Rows
 pub mod Cases

@@ -17,7 +17,7 @@ use Rattle.lists.proofs.Order.{lt-or-ge}
 use Rattle.line.specs.Line.{Line}
 use Rattle.line.specs.Policy.{Decision, Keep, Go, Policy, total}
 use Rattle.line.specs.Plan.{FirstDifference, IsPlan}
-use Rattle.line.specs.Ways.{policyFrom}
+use Rattle.line.specs.Answers.{policyFrom}
 use Rattle.line.proofs.Following.{keep-or-go, keep-not-go}
 use Rattle.line.proofs.Days.{lines-alike-refl, same-total}
 

@@ -1,30 +1,31 @@
--- Document 01, "Sums to check by hand": the cases a, b1 to b8, c, d as one table under one claim, that each way to an
--- answer gives the answer in the table.
---   Case        a line, the ways that fit it, and the answer printed
---   computed    the answers that the ways of a case find
---   printed     the answer of a case, once for each way
---   table       the cases
---   CasesHold   the claim
+-- Document 01, "Sums to check by hand": the cases a, b1 to b8, c, d as one table under one claim.
+--   Case        a line and the answer printed for a policy, for the plan or for a report
+--   Holds       what a case says of its line
+--   table       the cases, in document 01's order
+--   CasesHold   the claim: each case of the table holds, and the slacks are as printed
 -- Assumes nothing.
 use Prim.Native.Nat.{ℕ, _-_}
 use mathlib.Core.Path.{_≡_}
-use mathlib.Core.List.{List, [], _∷_, map}
+use mathlib.Core.List.{List, [], _∷_, List·Memᴰ}
 use Rattle.lists.specs.Choice.{ifSame}
 use Rattle.lists.specs.Run.{nth}
 use Rattle.line.specs.Line.{Line, lineFrom}
 use Rattle.line.specs.Policy.{Decision, Keep, Go}
-use Rattle.line.specs.Ways.{Rows, Answer, tableFrom, Way, Following, Listing, Working, Reworking, by}
+use Rattle.line.specs.Answers.{Rows, Answer, tableFrom, PolicyAnswer, PlanAnswer, WorkedAnswer}
 
-pub record Case : Type 0 where
-  pub line : Line
-  pub ways : List Way
-  pub answer : Answer
+-- A report of train t is taken over the rows of an answer before, on the line as it then is, and leaves the plan of
+-- that line. Over rows that no plan left, nothing but the rule fixes what it leaves.
+pub data Case : Type 0 where
+  policy plan : Line → Answer → Case
+  report : ℕ → Answer → Line → Answer → Case
+  rework : ℕ → Rows → Line → Answer → Case
 
-abbrev pub computed : Case → List Answer
-computed c = map (λ w. by w (c .line) (c .answer)) (c .ways)
-
-abbrev pub printed : Case → List Answer
-printed c = map (λ w. c .answer) (c .ways)
+-- a plan works every row, so that none before is read
+abbrev pub Holds : Case → Type 0
+Holds (policy L x) = PolicyAnswer L x
+Holds (plan L x) = PlanAnswer L x × WorkedAnswer L (L .trains) [] x
+Holds (report t before L x) = PlanAnswer L x × WorkedAnswer L t (before .rows) x
+Holds (rework t before L x) = WorkedAnswer L t before x
 
 -- ---- the lines
 
@@ -66,20 +67,6 @@ lineD = lineIn 2 1 (0 ∷ 0 ∷ []) (0 ∷ 0 ∷ []) (nth (0 ∷ 10 ∷ [])) ((0
 abbrev answer : List Decision → List ℕ → ℕ → Rows → Answer
 answer ds delays n rows = record { decisions = ds; delays = delays; total = n; rows = rows }
 
-abbrev policy : Line → Answer → Case
-policy L a = record { line = L; ways = Following ∷ []; answer = a }
-
-abbrev plan : Line → Answer → Case
-plan L a = record { line = L; ways = Listing ∷ Working ∷ []; answer = a }
-
--- after a report of train t over the rows of an answer before, on the line as it then is
-abbrev report : ℕ → Answer → Line → Answer → Case
-report t b L a = record { line = L; ways = Reworking t (b .rows) ∷ Listing ∷ Working ∷ []; answer = a }
-
--- the same over rows that no plan left: nothing but the rule fixes the answer
-abbrev rework : ℕ → Rows → Line → Answer → Case
-rework t before L a = record { line = L; ways = Reworking t before ∷ []; answer = a }
-
 abbrev pub a : Answer
 a = answer [] (7 ∷ []) 21 ((21 ∷ []) ∷ [])
 
@@ -108,9 +95,8 @@ foreign = (40 ∷ 7 ∷ []) ∷ (0 ∷ []) ∷ []
 -- and not the 176 that the decisions cost.
 abbrev pub table : List Case
 table =
-    plan lineA a
     -- b1, b2, b3 with keep and with go
-    ∷ policy (lineB 10 delaysB) (answer (Keep ∷ Keep ∷ []) (9 ∷ 7 ∷ 2 ∷ []) 202 [])
+    policy (lineB 10 delaysB) (answer (Keep ∷ Keep ∷ []) (9 ∷ 7 ∷ 2 ∷ []) 202 [])
     ∷ policy (lineB 10 delaysB) (answer (Keep ∷ Go ∷ []) (9 ∷ 7 ∷ 0 ∷ []) 218 [])
     ∷ policy (lineB 10 delaysB) (answer (Go ∷ Keep ∷ []) (9 ∷ 3 ∷ 0 ∷ []) 176 [])
     ∷ policy (lineB 10 delaysB) (answer (Go ∷ Go ∷ []) (9 ∷ 3 ∷ 0 ∷ []) 176 [])
@@ -126,10 +112,16 @@ table =
     ∷ plan lineC (answer (Keep ∷ []) (5 ∷ 5 ∷ []) 10 ((10 ∷ 10 ∷ []) ∷ (0 ∷ []) ∷ []))
     -- d
     ∷ plan lineD (answer (Keep ∷ []) (0 ∷ 10 ∷ []) 10 ((10 ∷ 10 ∷ []) ∷ (0 ∷ []) ∷ []))
+    -- a
+    ∷ plan lineA a
     -- not in document 01
     ∷ rework 1 ([] ∷ foreign) (lineB 10 delaysB)
     (answer (Go ∷ Keep ∷ []) (9 ∷ 3 ∷ 0 ∷ []) 186 ((186 ∷ 150 ∷ 54 ∷ []) ∷ foreign))
     ∷ []
 
-abbrev pub CasesHold : Type 0
-CasesHold = map computed table ≡ map printed table
+pub record CasesHold : Type 0 where
+  pub each : (c : Case) → List·Memᴰ c table → Holds c
+  -- Line B: both slacks are 5, whatever T and the delays. Lines C and D: slack 0.
+  pub slacks-b : (T : ℕ) (delay : ℕ → ℕ) → (lineB T delay .running .slack 2 ≡ 5) × (lineB T delay .running .slack 3 ≡ 5)
+  pub slack-c : lineC .running .slack 2 ≡ 0
+  pub slack-d : lineD .running .slack 2 ≡ 0

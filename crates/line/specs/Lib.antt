@@ -5,5 +5,5 @@ pub mod Plan
 pub mod Cells
 pub mod Alike
 pub mod Ranges
-pub mod Ways
+pub mod Answers
 pub mod Cases
