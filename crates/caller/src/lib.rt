@@ -46,7 +46,16 @@ pub fn call_write(
         (now (sheet .entry)) (now (answer .entry))
         (now (sheet .exit)) (now (answer .exit)) r ⌝ }
 {
-    oblachura_write(m, period, departures, driving, delays, passengers, sheet, answer)
+    oblachura_write(
+        m,
+        period,
+        departures,
+        driving,
+        delays,
+        passengers,
+        sheet,
+        answer,
+    )
 }
 
 pub fn call_plan(

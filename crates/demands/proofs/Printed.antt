@@ -1,31 +1,34 @@
--- From what is printed for a line to what plan leaves: the printed rows are worked, each cell being what the rule makes
--- of the others; so they give the plan, and the plan is one.
+-- From what is printed for a line to what plan leaves on a sheet of that line: the plan is one, and so is what a cell
+-- means.
 -- Assumes nothing.
 use mathlib.Core.Path.{_≡_, refl, sym, ap, subst, _∙_}
-use mathlib.Core.List.{List, []}
-use Prim.Native.Nat.{ℕ, _+_, _-_, _≤_}
+use mathlib.Core.List.{List, [], _∷_, map}
+use mathlib.Core.Logic.{inl, inr}
+use Prim.Native.Nat.{ℕ, zero, suc, _+_, _-_, _≤_, _<_}
 use native.Mathlib.Omega.{arith}
-use lib.ListN.{getD}
+use lib.ListN.{length, getD}
 use Rattle.lists.specs.Choice.{ifBelow}
 use Rattle.lists.specs.Run.{listed, padded, nth}
 use Rattle.lists.proofs.Choice.{below-yes, below-no}
+use Rattle.lists.proofs.Order.{lt-or-ge}
 use Rattle.lists.proofs.Run.{listed-each, listed-padded, padded-same}
 use Rattle.rail.specs.declared.Verdict.the-variants.{Fine}
 use Rattle.line.specs.Line.{Line, lineFrom}
-use Rattle.line.specs.Policy.{Policy, arrival, total}
-use Rattle.line.specs.Cells.{Table, bookOf, cellBy, Worked, decide}
+use Rattle.line.specs.Policy.{Decision, Keep, Policy, arrival, total}
+use Rattle.line.specs.Cells.{Table, bookOf, Worked}
 use Rattle.line.specs.Alike.{LinesAlike}
-use Rattle.line.specs.Answers.{Rows, tableFrom, Answer as CaseAnswer}
+use Rattle.line.specs.Answers.{Rows, policyFrom, tableFrom, PlanAnswer, Answer as CaseAnswer}
 use Rattle.line.proofs.Days.{same-days, same-total}
 use Rattle.line.proofs.Alike.{books-of-lines}
-use Rattle.line.proofs.Tables.{worked-for-alike, worked-one}
-use Rattle.line.proofs.Worked.{decided-total, decided-is-plan}
+use Rattle.line.proofs.Tables.{worked-for-alike}
+use Rattle.line.proofs.Worked.{cell-means, cell-one}
 use Rattle.line.proofs.Plan.{plan-one, plan-alike}
 use Rattle.line.proofs.Base.{base-alike}
 use Rattle.sheet.specs.Numbers.{numbersOf}
 use Rattle.sheet.specs.Checks.{sheetVerdict}
 use Rattle.cells.specs.Place.{place, tableOf}
 use Rattle.cells.specs.Shown.{byteOf, shown}
+use Rattle.cells.proofs.Places.{table-in}
 use Rattle.cells.proofs.Shown.{shown-same}
 use Rattle.settle.specs.LineOf.{lineOf}
 use Rattle.settle.specs.Buffers.{Buffers, RightLengths}
@@ -63,86 +66,77 @@ lines-same m T d d′ r r′ y y′ n n′ departures driving delays passengers 
     let e : j - 1 + 1 ≡ j = omega arith in
     subst (λ (x : ℕ). n i x ≡ n′ i x) e (same-pairs _ _ m passengers i (j - 1) a (omega arith) (omega arith)))
 
--- ---- what plan leaves on a sheet whose line is M, where rows are printed
+-- ---- decisions in a list, shown as bytes
 
--- the printed cells; for l = m + 1 the value is 0
-unfoldable pub printedCells : ℕ → Rows → Table
-printedCells m rows k l = ifBelow m l 0 (tableFrom rows k l)
+byte-at : (ds : List Decision) (k : ℕ) → k < length ds → byteOf (getD ds k Keep) ≡ getD (map byteOf ds) k 0
+byte-at [] k h = absurd (omega arith)
+byte-at (d ∷ ds) zero h = refl
+byte-at (d ∷ ds) (suc k) h = byte-at ds k (omega arith)
 
-abbrev pub printedPolicy : Line → Rows → Policy
-printedPolicy M rows = decide (bookOf M) (printedCells (M .trains) rows)
+-- 0 for train 1, then the decisions
+byte-of-decision : (ds : List Decision) (i : ℕ) → 1 ≤ i → i ≤ length ds + 1
+    → ifBelow 1 i (byteOf (policyFrom ds i)) 0 ≡ nth (0 ∷ map byteOf ds) i
+byte-of-decision ds i a b = elim (lt-or-ge 1 i) [
+  | inl u ↦
+      let e : i - 1 ≡ suc (i - 2) = omega arith in
+      below-yes _ _ u ∙ byte-at ds (i - 2) (omega arith) ∙ ap (λ (k : ℕ). getD (0 ∷ map byteOf ds) k 0) (sym e)
+  | inr u ↦
+      let e : i - 1 ≡ 0 = omega arith in
+      below-no _ _ u ∙ ap (λ (k : ℕ). getD (0 ∷ map byteOf ds) k 0) (sym e)
+]
 
--- What is printed for a line: each cell is what the rule makes of the others, and the rest is read off the cells. All
--- four are computed.
-pub record Printed (M : Line) (x : CaseAnswer) : Type 0 where
-  pub rule : pairRows (M .trains) (printedCells (M .trains) (x .rows))
-      ≡ pairRows (M .trains) (cellBy (bookOf M) (printedCells (M .trains) (x .rows)))
-  pub corner : printedCells (M .trains) (x .rows) 1 1 ≡ x .total
-  pub decisions : listed (λ i. ifBelow 1 i (byteOf (printedPolicy M (x .rows) i)) 0) 1 (M .trains) ≡ decisionBytes x
-  pub delays : listed (arrival (M .running) (printedPolicy M (x .rows))) 1 (M .trains) ≡ x .delays
+-- ---- what plan leaves on a sheet whose line is M, where x is printed for M
 
 module _ (s : List ℕ) (M : Line) (x : CaseAnswer) (fine : sheetVerdict s ≡ Fine)
-    (alike : LinesAlike 1 (lineOf (numbersOf s)) M) (print : Printed M x)
+    (alike : LinesAlike 1 (lineOf (numbersOf s)) M) (print : PlanAnswer M x)
     (before after : Buffers) (a : Answer) (right : RightLengths before) (h : Plan s before after a) where
   abbrev L : Line
   L = lineOf (numbersOf s)
 
   abbrev q : Policy
-  q = printedPolicy M (x .rows)
-
-  worked : Worked (bookOf M) (M .trains) (λ k l. 0) (printedCells (M .trains) (x .rows))
-  unfolding printedCells
-  worked =
-      record {
-        last = λ k. below-yes _ _ (omega arith);
-        anew = λ k l u v w y. same-pairs _ _ (M .trains) (print .rule) k l u w y;
-        stand = λ k l u v w. absurd (omega arith);
-      }
+  q = policyFrom (x .decisions)
 
   plan : Planned L before after a
   unfolding planVerdict
   plan = h .accepted (checks-right before (sheetVerdict s) right ∙ fine)
 
-  -- the plan is one, and it is read off the printed cells
+  -- the plan is one, and it is printed
   agrees : (i : ℕ) → 2 ≤ i → i ≤ L .trains → plan .policy i ≡ q i
   agrees i u v =
       plan-one M (plan .policy) q
       (plan-alike L M (plan .policy) (plan .policy) alike (λ j y z. refl) (plan .plan))
-      (decided-is-plan M _ _ worked) i u (omega (arith, alike .trains))
+      (print .plan) i u (omega (arith, alike .trains))
 
   total-is : total L (plan .policy) ≡ x .total
-  total-is = same-total L M (plan .policy) q alike agrees ∙ decided-total M _ _ worked ∙ print .corner
+  total-is = same-total L M (plan .policy) q alike agrees ∙ print .policy .costs
 
   decisions-are : after .decisions ≡ padded 64 (M .trains) (nth (decisionBytes x))
   unfolding shown
   decisions-are =
       plan .decisions ∙ shown-same (L .trains) (plan .policy) q agrees ∙ ap (λ (m : ℕ). shown m q) (alike .trains)
-      ∙ listed-padded 64 (M .trains) _ _ (print .decisions)
+      ∙ padded-same 64 (M .trains) _ _
+      (λ i u v. byte-of-decision (x .decisions) i u (omega (arith, print .policy .decided)))
 
   delays-are : after .delays ≡ padded 64 (M .trains) (nth (x .delays))
   delays-are =
       plan .delays ∙ padded-same 64 (L .trains) _ _ (same-days L M (plan .policy) q alike agrees .arrival)
       ∙ ap (λ (m : ℕ). padded 64 m (arrival (M .running) q)) (alike .trains)
-      ∙ listed-padded 64 (M .trains) _ _ (print .delays)
+      ∙ listed-padded 64 (M .trains) _ _ (print .policy .delays)
 
-  -- both tables are worked for M
+  -- both are what the cell means on M
   cells-are : (k l : ℕ) → 1 ≤ k → k ≤ l → l ≤ M .trains
       → getD (after .cells) (place (M .trains) k l) 0 ≡ tableFrom (x .rows) k l
-  unfolding tableOf printedCells
   cells-are k l u v w =
       let anew = worked-for-alike (L .trains) (bookOf L) (bookOf M) _ _ (books-of-lines 1 L M alike)
       (plan .cells .worked) in
-      let anew′ = subst (λ (t : ℕ). Worked (bookOf M) t (tableOf t (before .cells)) (tableOf t (after .cells)))
+      let worked = subst (λ (t : ℕ). Worked (bookOf M) t (tableOf t (before .cells)) (tableOf t (after .cells)))
       (alike .trains) anew in
-      let same = worked-one (bookOf M) (M .trains) _ _ _ _ anew′ worked (λ i j y z o. absurd (omega arith))
-      k l u v (omega arith) in
-      sym (below-no _ _ w) ∙ same ∙ below-no _ _ w
+      sym (table-in (M .trains) (after .cells) k l w)
+      ∙ cell-one M k l _ _ (cell-means M _ _ worked k l u v (omega arith)) (print .cells k l u v w)
 
   pub leaves : Leaves (M .trains) x after a
   leaves =
       record {
         answer = plan .answer ∙ ap Accepted total-is;
-        decisions = decisions-are;
-        delays = delays-are;
-        cells = cells-are;
+        held = record { decisions = decisions-are; delays = delays-are; cells = cells-are };
       }

@@ -10,7 +10,7 @@ use Rattle.lists.specs.Run.{runOf, listed}
 use Rattle.bits.specs.Field.{bitAt, fieldOf}
 use Rattle.line.specs.Line.{Line, lineFrom}
 use Rattle.line.specs.Alike.{LinesAlike}
-use Rattle.line.specs.Answers.{Answer as CaseAnswer}
+use Rattle.line.specs.Answers.{PlanAnswer, Answer as CaseAnswer}
 use Rattle.line.specs.Cases.{lineB, delaysB7, delaysB8}
 use Rattle.line.proofs.Days.{lines-alike-trans}
 use Rattle.sheet.specs.Format.{trainsOf, entry}
@@ -30,8 +30,8 @@ use Rattle.demands.specs.Calling.{operations}
 use Rattle.demands.specs.Runs.{InRun, planned, reported, ReportInRun}
 use Rattle.demands.proofs.Answered.{all-right}
 use Rattle.demands.proofs.Runs.{demand-3}
-use Rattle.demands.proofs.Printed.{pairRows, lines-same, Printed, leaves}
-use Rattle.demands.proofs.Sheets.{sheet-b-accepted, printed, answers-b}
+use Rattle.demands.proofs.Printed.{pairRows, lines-same, leaves}
+use Rattle.demands.proofs.Sheets.{sheet-b-accepted, case-b7, case-b8, answers-b}
 
 -- ---- the lines of the sheet after one report and after both
 
@@ -54,7 +54,7 @@ unfolding bitAt fieldOf
 trains-b = refl
 
 -- a report of a run whose numbers then are N leaves what is printed for the line of N
-module _ (N : Numbers) (M : Line) (x : CaseAnswer) (line : LinesAlike 1 (lineOf N) M) (print : Printed M x) where
+module _ (N : Numbers) (M : Line) (x : CaseAnswer) (line : LinesAlike 1 (lineOf N) M) (print : PlanAnswer M x) where
   report-leaves : (s : List ℕ) (i v : ℕ) (before : Buffers) (t : List ℕ) (after : Buffers) (a : Answer)
       → RightLengths before → answerNumber a ≡ 0 → ReportInRun operations tt s i v before t after a
       → SameNumbers (numbersOf t) N → Leaves (M .trains) x after a
@@ -86,7 +86,7 @@ module _ (after4 : Buffers) (a4 : Answer) (t : List ℕ) (before after : Buffers
 pub answers-b7 : AnswersB7
 unfolding lineFrom
 answers-b7 after4 a4 t before after a h =
-    report-leaves numbersB7 _ _ line-of-b7 (printed .case-b7) sheetB 1 5 before t after a (h .right)
+    report-leaves numbersB7 _ _ line-of-b7 case-b7 sheetB 1 5 before t after a (h .right)
     (zero-b7 after4 a4 t before after a h) (step-b7 after4 a4 t before after a h)
     (same-b7 after4 a4 t before after a h)
 
@@ -100,6 +100,6 @@ answers-b8 after4 a4 t before7 after7 a7 u before after a h cells right report =
     let zero = step .accepts (all-right right) (omega arith) second (omega arith) in
     let ok = step-b7 after4 a4 t before7 after7 a7 h .stands in
     let new = replaced-numbers t u 2 6 ok (omega arith) second (step .field zero) in
-    report-leaves numbersB8 _ _ line-of-b8 (printed .case-b8) t 2 6 before u after a right zero step
+    report-leaves numbersB8 _ _ line-of-b8 case-b8 t 2 6 before u after a right zero step
     (same-both _ _ (withDelay (numbersOf t) 2 6) new
     (same-sym _ _ (with-delay-same (numbersOf t) numbersB7 2 6 same)))

@@ -1,19 +1,18 @@
 -- What plan answers on sheets A, B and B with T 13: each is accepted and its line is that of its case, by computing
--- both.
+-- both; what is printed for the case is then the plan.
 -- Assumes nothing.
 use mathlib.Core.Path.{_≡_, refl}
-use Rattle.lists.specs.Choice.{ifBelow, ifSame}
+use native.Mathlib.Omega.{arith}
+use Rattle.lists.specs.Choice.{ifBelow}
 use Rattle.lists.specs.Run.{runOf, listed}
 use Rattle.bits.specs.Field.{bitAt, fieldOf}
 use Rattle.rail.specs.declared.Verdict.the-variants.{Fine}
 use Rattle.rail.specs.Verdict.{refuse_when_below_, _andThen_, firstOf}
-use Rattle.line.specs.Sum.{sum_from_to_}
 use Rattle.line.specs.Line.{lineFrom}
-use Rattle.line.specs.Policy.{arrival, excess, departure}
-use Rattle.line.specs.Cells.{leaving, aboard, runFrom, excessOn, arrivalOn, keepCost, goCost, cellBy, choice, begins}
-use Rattle.line.specs.Cells.{policyBy, decide}
 use Rattle.line.specs.Alike.{LinesAlike}
+use Rattle.line.specs.Answers.{PlanAnswer}
 use Rattle.line.specs.Cases.{lineA, lineB, delaysB, delaysB7, delaysB8, a as caseA, b4, b6, b7, b8}
+use Rattle.line.proofs.Cases.{case-at}
 use Rattle.sheet.specs.Format.{entry, bitsOf, bytesOf, pairsOf}
 use Rattle.sheet.specs.Numbers.{numbersOf}
 use Rattle.sheet.specs.Pairs.{fieldsUpTo, fieldOfPair, passengersOfPair}
@@ -23,7 +22,7 @@ use Rattle.sheet.specs.SheetA.{sheetA}
 use Rattle.sheet.proofs.Sample.{sheet-a-accepted}
 use Rattle.settle.specs.LineOf.{lineOf}
 use Rattle.demands.specs.Sheets.{sheetB, sheetB13, AnswersA, AnswersB, AnswersB13}
-use Rattle.demands.proofs.Printed.{pairRows, lines-same, printedCells, Printed, leaves}
+use Rattle.demands.proofs.Printed.{pairRows, lines-same, leaves}
 
 -- ---- the sheets are accepted
 
@@ -51,38 +50,34 @@ pub line-of-sheet-b13 : LinesAlike 1 (lineOf (numbersOf sheetB13)) (lineB 13 del
 unfolding lineOf passengersOfPair fieldOfPair fieldsUpTo bitAt fieldOf entry pairRows listed runOf
 line-of-sheet-b13 = lines-same 3 13 _ _ _ _ _ _ _ _ refl refl refl refl
 
--- ---- the printed numbers agree with the rule
+-- ---- what is printed is the plan of each line
 
--- of each case, its line and what is printed for it
-pub record AllPrinted : Type 0 where
-  pub case-a : Printed lineA caseA
-  pub case-b4 : Printed (lineB 10 delaysB) b4
-  pub case-b6 : Printed (lineB 13 delaysB) b6
-  pub case-b7 : Printed (lineB 10 delaysB7) b7
-  pub case-b8 : Printed (lineB 10 delaysB8) b8
+-- counted from 0 in the table
+case-a : PlanAnswer lineA caseA
+case-a = case-at 13 (omega arith) .0
 
-pub printed : AllPrinted
-unfolding ifBelow ifSame runOf listed sum_from_to_ lineFrom arrival excess departure leaving aboard runFrom excessOn
-    arrivalOn keepCost goCost cellBy choice begins policyBy decide pairRows printedCells
-printed =
-    record {
-      case-a = record { rule = refl; corner = refl; decisions = refl; delays = refl };
-      case-b4 = record { rule = refl; corner = refl; decisions = refl; delays = refl };
-      case-b6 = record { rule = refl; corner = refl; decisions = refl; delays = refl };
-      case-b7 = record { rule = refl; corner = refl; decisions = refl; delays = refl };
-      case-b8 = record { rule = refl; corner = refl; decisions = refl; delays = refl };
-    }
+case-b4 : PlanAnswer (lineB 10 delaysB) b4
+case-b4 = case-at 4 (omega arith) .0
+
+case-b6 : PlanAnswer (lineB 13 delaysB) b6
+case-b6 = case-at 6 (omega arith) .0
+
+pub case-b7 : PlanAnswer (lineB 10 delaysB7) b7
+case-b7 = case-at 7 (omega arith) .0
+
+pub case-b8 : PlanAnswer (lineB 10 delaysB8) b8
+case-b8 = case-at 8 (omega arith) .0
 
 -- ---- the three sheets
 
 pub answers-a : AnswersA
 unfolding lineFrom
-answers-a = leaves sheetA lineA _ sheet-a-accepted line-of-sheet-a (printed .case-a)
+answers-a = leaves sheetA lineA _ sheet-a-accepted line-of-sheet-a case-a
 
 pub answers-b : AnswersB
 unfolding lineFrom
-answers-b = leaves sheetB (lineB 10 delaysB) _ sheet-b-accepted line-of-sheet-b (printed .case-b4)
+answers-b = leaves sheetB (lineB 10 delaysB) _ sheet-b-accepted line-of-sheet-b case-b4
 
 pub answers-b13 : AnswersB13
 unfolding lineFrom
-answers-b13 = leaves sheetB13 (lineB 13 delaysB) _ sheet-b13-accepted line-of-sheet-b13 (printed .case-b6)
+answers-b13 = leaves sheetB13 (lineB 13 delaysB) _ sheet-b13-accepted line-of-sheet-b13 case-b6

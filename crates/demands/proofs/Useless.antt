@@ -32,25 +32,25 @@ refuses-all-breaks before after r right h =
 
 pub same-decisions-break : SameDecisionsBreak
 same-decisions-break before after before′ after′ a a′ right right′ h h′ same =
-    let zero = byte-two (after .decisions) (decisionBytes b4) (answers-b before after a right h .decisions) in
-    let one = byte-two (after′ .decisions) (decisionBytes b6) (answers-b13 before′ after′ a′ right′ h′ .decisions) in
+    let zero = byte-two (after .decisions) (decisionBytes b4) (answers-b before after a right h .held .decisions) in
+    let one = byte-two (after′ .decisions) (decisionBytes b6) (answers-b13 before′ after′ a′ right′ h′ .held .decisions) in
     zero-not-one (sym zero ∙ ap (λ (l : List ℕ). nth l 2) same ∙ one)
 
 pub all-keep-breaks : AllKeepBreaks
 unfolding shown
 all-keep-breaks before after a right h same =
-    let zero = byte-two (after .decisions) (decisionBytes b4) (answers-b before after a right h .decisions) in
+    let zero = byte-two (after .decisions) (decisionBytes b4) (answers-b before after a right h .held .decisions) in
     let one : nth (after .decisions) 2 ≡ 1
     = padded-nth (after .decisions) 64 3 _ same (omega arith) 2 (omega arith) (omega arith)
     ∙ below-yes _ _ (omega arith) in
     zero-not-one (sym zero ∙ one)
 
 pub does-nothing-breaks : DoesNothingBreaks
-does-nothing-breaks before after a right other h same = other (sym same ∙ answers-b before after a right h .decisions)
+does-nothing-breaks b a right other h = other (answers-b b b a right h .held)
 
 pub stays-blank-breaks : StaysBlankBreaks
 stays-blank-breaks before after a right blank h same =
-    let zero = byte-two (after .decisions) (decisionBytes b4) (answers-b before after a right h .decisions) in
+    let zero = byte-two (after .decisions) (decisionBytes b4) (answers-b before after a right h .held .decisions) in
     let two : nth (after .decisions) 2 ≡ 2 = ap (λ (l : List ℕ). nth l 2) (same ∙ blank) in
     absurd (omega (arith, zero, two))
 
@@ -59,14 +59,14 @@ repeats-plan-breaks after4 a4 t before after a h =
     let old = answers-b (h .lent) after4 a4 (h .lent-right) (h .plan) in
     let new = answers-b7 after4 a4 t before after a h in (
       λ same.
-          let zero = byte-two (after4 .decisions) (decisionBytes b4) (old .decisions) in
-          let one = byte-two (after .decisions) (decisionBytes b7) (new .decisions) in
+          let zero = byte-two (after4 .decisions) (decisionBytes b4) (old .held .decisions) in
+          let one = byte-two (after .decisions) (decisionBytes b7) (new .held .decisions) in
           zero-not-one (sym zero ∙ sym (ap (λ (l : List ℕ). nth l 2) same) ∙ one),
       λ same.
           let nine : nth (after4 .delays) 1 ≡ 9
-          = padded-nth _ 64 3 _ (old .delays) (omega arith) 1 (omega arith) (omega arith) in
+          = padded-nth _ 64 3 _ (old .held .delays) (omega arith) 1 (omega arith) (omega arith) in
           let five : nth (after .delays) 1 ≡ 5
-          = padded-nth _ 64 3 _ (new .delays) (omega arith) 1 (omega arith) (omega arith) in
+          = padded-nth _ 64 3 _ (new .held .delays) (omega arith) 1 (omega arith) (omega arith) in
           absurd (omega (arith, nine, five, ap (λ (l : List ℕ). nth l 1) same)),
       λ same. absurd (omega (arith, ap answerTotal (sym (new .answer) ∙ same ∙ old .answer))),
     )

@@ -2,8 +2,9 @@
 -- b6), and what two reports answer after the plan of B (cases b7 and b8).
 --   sheetB, sheetB13             the bytes of sheet B, by the layout of "The bit sheet", and of B with T 13
 --   decisionBytes x              the decisions of the case x as bytes
---   Leaves m x after a           m trains: total, decision bytes, delays and cells in use are those of the case x, the
+--   Held m x b                   m trains: the decision bytes, delays and cells in use of b are those of the case x, the
 --                                other bytes and delays 0
+--   Leaves m x after a           that, and the answer is the total of the case x
 --   Answers s m x                plan leaves that on the sheet s, whatever buffers of the right lengths held before
 --   AnswersA, AnswersB, AnswersB13     of cases a, b4 and b6
 --   ReportAfterB4                the report of case b7, after the plan of case b4
@@ -41,11 +42,14 @@ sheetB13 =
 abbrev pub decisionBytes : CaseAnswer → List ℕ
 decisionBytes x = 0 ∷ map byteOf (x .decisions)
 
+pub record Held (m : ℕ) (x : CaseAnswer) (b : Buffers) : Type 0 where
+  pub decisions : b .decisions ≡ padded 64 m (nth (decisionBytes x))
+  pub delays : b .delays ≡ padded 64 m (nth (x .delays))
+  pub cells : (k l : ℕ) → 1 ≤ k → k ≤ l → l ≤ m → getD (b .cells) (place m k l) 0 ≡ tableFrom (x .rows) k l
+
 pub record Leaves (m : ℕ) (x : CaseAnswer) (after : Buffers) (a : Answer) : Type 0 where
   pub answer : a ≡ Accepted (x .total)
-  pub decisions : after .decisions ≡ padded 64 m (nth (decisionBytes x))
-  pub delays : after .delays ≡ padded 64 m (nth (x .delays))
-  pub cells : (k l : ℕ) → 1 ≤ k → k ≤ l → l ≤ m → getD (after .cells) (place m k l) 0 ≡ tableFrom (x .rows) k l
+  pub held : Held m x after
 
 abbrev pub Answers : List ℕ → ℕ → CaseAnswer → Type 0
 Answers s m x =

@@ -3,8 +3,9 @@
 --   RefusesAllBreaks     one that refuses all sheets: sheet B is never refused
 --   SameDecisionsBreak   one with the same decisions for all lines: those on sheet B differ from those on B with T 13,
 --   AllKeepBreaks        and are not keep throughout
---   DoesNothingBreaks    one that does nothing: decisions other than the plan's do not stay as they were,
---   StaysBlankBreaks     nor do blank ones
+--   DoesNothingBreaks    one that does nothing: whatever cells, decisions and delays were, they do not all stay so,
+--                        unless they were the plan's already
+--   StaysBlankBreaks     one that leaves blank decisions blank
 --   RepeatsPlanBreaks    one that plans honestly and then merely repeats its plan at each report: after b4 the report
 --                        of b7 leaves other decisions, other delays and another total than the plan
 --   WritesEarlyBreaks    one that writes the sheet before it tests 12: with a later cell over the limit the report of
@@ -28,7 +29,7 @@ use Rattle.planner.specs.Plan.{Plan}
 use Rattle.planner.specs.Report.{Report}
 use Rattle.demands.specs.Calling.{operations}
 use Rattle.demands.specs.Answered.{Carries}
-use Rattle.demands.specs.Sheets.{sheetB, sheetB13, decisionBytes, ReportAfterB4}
+use Rattle.demands.specs.Sheets.{sheetB, sheetB13, Held, ReportAfterB4}
 
 abbrev pub RefusesAllBreaks : Type 0
 RefusesAllBreaks =
@@ -54,11 +55,10 @@ AllKeepBreaks =
 
 abbrev pub DoesNothingBreaks : Type 0
 DoesNothingBreaks =
-    (before after : Buffers) (a : Answer)
-    → RightLengths before
-    → ¬ (before .decisions ≡ padded 64 3 (nth (decisionBytes b4)))
-    → Plan sheetB before after a
-    → ¬ (after .decisions ≡ before .decisions)
+    (b : Buffers) (a : Answer)
+    → RightLengths b
+    → ¬ (Held 3 b4 b)
+    → ¬ (Plan sheetB b b a)
 
 abbrev pub StaysBlankBreaks : Type 0
 StaysBlankBreaks =

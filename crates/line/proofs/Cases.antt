@@ -3,9 +3,9 @@
 -- Assumes nothing.
 use mathlib.Core.Path.{_≡_, refl, ap, sym, _∙_}
 use mathlib.Core.List.{List, [], _∷_, map, List·Memᴰ, List·Memᴰ·head, List·Memᴰ·tail}
-use Prim.Native.Nat.{ℕ, _-_}
+use Prim.Native.Nat.{ℕ, zero, suc, _-_, _<_}
 use native.Mathlib.Omega.{arith}
-use lib.ListN.{length}
+use lib.ListN.{length, getD}
 use Rattle.lists.specs.Choice.{ifBelow, ifSame}
 use Rattle.lists.specs.Run.{runOf, listed}
 use Rattle.lists.proofs.Run.{listed-length}
@@ -15,7 +15,7 @@ use Rattle.line.specs.Policy.{arrival, excess, departure, missed, atFirs
 use Rattle.line.specs.Cells.{leaving, aboard, runFrom, excessOn, arrivalOn, keepCost, goCost, cellBy, choice}
 use Rattle.line.specs.Cells.{begins, policyBy, decide, bookOf}
 use Rattle.line.specs.Answers.{Rows, Answer, policyFrom, tableFrom, PolicyAnswer, PlanAnswer, WorkedAnswer}
-use Rattle.line.specs.Cases.{Case, policy, plan, report, rework, Holds, table, CasesHold}
+use Rattle.line.specs.Cases.{Case, policy, plan, report, rework, Holds, lineA, a, table, CasesHold}
 use Rattle.line.proofs.Worked.{cell-means}
 use Rattle.line.proofs.Listing.{better, firstLeast, first-least-length, first-least-is-plan}
 use Rattle.line.proofs.Rows.{rowsOf, reworked, reworked-in-use, reworked-worked}
@@ -130,3 +130,12 @@ cases =
       slack-c = refl;
       slack-d = refl;
     }
+
+-- each case by its place in the table, from 0
+listed-at : (cs : List Case) (n : ℕ) (d : Case) → n < length cs → List·Memᴰ (getD cs n d) cs
+listed-at [] n d h = absurd (omega arith)
+listed-at (c ∷ cs) zero d h = List·Memᴰ·head refl
+listed-at (c ∷ cs) (suc n) d h = List·Memᴰ·tail (listed-at cs n d (omega arith))
+
+pub case-at : (n : ℕ) → n < length table → Holds (getD table n (plan lineA a))
+case-at n h = cases .each _ (listed-at table n _ h)
