@@ -3,7 +3,7 @@ use crate::lengths;
 use crate::lengths::Lengths;
 use crate::marks;
 use crate::shown;
-use records::parts;
+use records::at_most;
 use records::source;
 use records::source::short;
 
@@ -35,9 +35,9 @@ fn plan_buffers(sheet: &[u8], n: Lengths, full: bool) {
     let mut delays = [77777u32; 70];
     plan_into(
         sheet,
-        parts::lent_longs(&mut cells, n.cells),
-        parts::lent_bytes(&mut decisions, n.decisions),
-        parts::lent_numbers(&mut delays, n.delays),
+        &mut cells[0..at_most(n.cells, 4100)],
+        &mut decisions[0..at_most(n.decisions, 70)],
+        &mut delays[0..at_most(n.delays, 70)],
         full,
     );
 }
@@ -47,6 +47,7 @@ pub fn record(from: i32, full: bool) {
     let lent = lengths::next(from);
     let n = short(from);
     let mut sheet = [0u8; 4000];
-    source::load(from, parts::lent_bytes(&mut sheet, n));
-    plan_buffers(parts::bytes(&sheet, n), lent, full);
+    let sheet = &mut sheet[0..at_most(n, 4000)];
+    source::load(from, sheet);
+    plan_buffers(sheet, lent, full);
 }

@@ -1,6 +1,6 @@
 // Lists in full, one line each: a space before each number.
 ghost use Prim.Native.Nat.{_≤_};
-use records::parts;
+use records::at_most;
 
 // The byte, as wide as what is said.
 fn wide_byte(b: u8) -> u64 {
@@ -49,7 +49,9 @@ fn row(cells: &[u64], k: usize, m: usize)
     say::word(b"row ");
     say::number(k as u64);
     say::word(b":");
-    longs(parts::longs(parts::longs_behind(cells, 65 * (k - 1)), m - k + 1));
+    let first = at_most(65 * (k - 1), cells.len());
+    let end = at_most(first + m - k + 1, cells.len());
+    longs(&cells[first..end]);
 }
 
 // The cells in use of m trains, row by row.

@@ -6,7 +6,7 @@ use crate::printed;
 use crate::shown;
 use planner::Answer;
 use rail::Train;
-use records::parts;
+use records::at_most;
 use records::source;
 use records::source::byte;
 use records::source::long;
@@ -74,24 +74,13 @@ fn answer(
 // cells hold.
 fn ask(from: i32, asked: Asked, sheet: &mut [u8], before: &[u64], cells: &mut [u64], full: bool) {
     let n = lengths::next(from);
+    let lent = at_most(n.cells, cells.len());
     let mut decisions = [7u8; 70];
     let mut delays = [77777u32; 70];
-    let a = answer(
-        asked,
-        sheet,
-        parts::lent_longs(cells, n.cells),
-        parts::lent_bytes(&mut decisions, n.decisions),
-        parts::lent_numbers(&mut delays, n.delays),
-    );
-    show(
-        sheet,
-        a,
-        before,
-        cells,
-        parts::bytes(&decisions, n.decisions),
-        parts::numbers(&delays, n.delays),
-        full,
-    );
+    let decisions = &mut decisions[0..at_most(n.decisions, 70)];
+    let delays = &mut delays[0..at_most(n.delays, 70)];
+    let a = answer(asked, sheet, &mut cells[0..lent], decisions, delays);
+    show(sheet, a, before, cells, decisions, delays, full);
 }
 
 // The train and the delay of a report.
@@ -136,6 +125,7 @@ fn steps(from: i32, sheet: &mut [u8], full: bool) {
 pub fn record(from: i32, full: bool) {
     let n = short(from);
     let mut sheet = [0u8; 4000];
-    source::load(from, parts::lent_bytes(&mut sheet, n));
-    steps(from, parts::lent_bytes(&mut sheet, n), full);
+    let sheet = &mut sheet[0..at_most(n, 4000)];
+    source::load(from, sheet);
+    steps(from, sheet, full);
 }

@@ -73,15 +73,3 @@ pub fn longs(list: &[u64]) -> u64 {
     }
     sum.total
 }
-
-// Whether every byte is `value`.
-pub fn every(list: &[u8], value: u8) -> bool {
-    let mut k = 0;
-    while k < list.len() {
-        if list[k] != value {
-            return false;
-        }
-        k += 1;
-    }
-    true
-}

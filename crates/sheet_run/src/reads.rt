@@ -1,7 +1,8 @@
 // Records of read.
 use crate::writes;
+use crate::writes::BEFORE;
 use decoder::Reading;
-use records::parts;
+use records::at_most;
 use records::source;
 use records::source::short;
 use records::sums;
@@ -27,9 +28,9 @@ fn left(departures: &[u32], driving: &[u32], delays: &[u32], passengers: &[u32])
 
 // Whether write gave the sheet back, and whether the rest of the buffer is as it was.
 fn compare(sheet: &[u8], length: usize, buffer: &[u8]) {
-    say::next_bool(check::same(parts::bytes(buffer, length), sheet));
-    say::next_bool(sums::every(parts::bytes_behind(buffer, length), 165));
-    say::end();
+    let written = &buffer[0..at_most(length, buffer.len())];
+    say::next_bool(check::same(written, sheet));
+    writes::rest(buffer, length);
 }
 
 // The numbers that read gave, written again.
@@ -42,7 +43,7 @@ fn write_back(
     delays: &[u32],
     passengers: &[u32],
 ) {
-    let mut buffer = [165u8; 3907];
+    let mut buffer = [BEFORE; 3907];
     let w = writer::write(
         m,
         period,
@@ -78,10 +79,10 @@ fn back(
             sheet,
             m,
             period,
-            parts::numbers(departures, n),
-            parts::numbers(driving, n),
-            parts::numbers(delays, n),
-            parts::numbers(passengers, pairs(n)),
+            &departures[0..at_most(n, departures.len())],
+            &driving[0..at_most(n, driving.len())],
+            &delays[0..at_most(n, delays.len())],
+            &passengers[0..at_most(pairs(n), passengers.len())],
         );
     }
 }
@@ -107,10 +108,10 @@ fn read_lists(sheet: &[u8], a: usize, b: usize, c: usize, d: usize) {
     let mut passengers = [77u32; 2100];
     read_into(
         sheet,
-        parts::lent_numbers(&mut departures, a),
-        parts::lent_numbers(&mut driving, b),
-        parts::lent_numbers(&mut delays, c),
-        parts::lent_numbers(&mut passengers, d),
+        &mut departures[0..at_most(a, 70)],
+        &mut driving[0..at_most(b, 70)],
+        &mut delays[0..at_most(c, 70)],
+        &mut passengers[0..at_most(d, 2100)],
     );
 }
 
@@ -121,6 +122,7 @@ pub fn record(from: i32) {
     let d = short(from);
     let n = short(from);
     let mut sheet = [0u8; 4000];
-    source::load(from, parts::lent_bytes(&mut sheet, n));
-    read_lists(parts::bytes(&sheet, n), a, b, c, d);
+    let sheet = &mut sheet[0..at_most(n, 4000)];
+    source::load(from, sheet);
+    read_lists(sheet, a, b, c, d);
 }

@@ -1,10 +1,13 @@
 // Records of write.
-use records::parts;
+use records::at_most;
 use records::source::list;
 use records::source::number;
 use records::source::short;
 use records::sums;
 use writer::Writing;
+
+// What every byte of a buffer holds before write.
+pub const BEFORE: u8 = 165;
 
 // Number, place and length.
 pub fn show(w: Writing) {
@@ -13,11 +16,20 @@ pub fn show(w: Writing) {
     say::next(w.length() as u64);
 }
 
-// What write left: the sheet, and whether all behind it is as it was.
-fn left(buffer: &[u8], length: usize) {
-    say::next(sums::bytes(parts::bytes(buffer, length)));
-    say::next_bool(sums::every(parts::bytes_behind(buffer, length), 165));
+// Whether all behind the sheet is as it was, and the end of the line.
+pub fn rest(buffer: &[u8], length: usize) {
+    let before = [BEFORE; 4000];
+    let room = at_most(buffer.len(), 4000);
+    let behind = at_most(length, room);
+    say::next_bool(check::same(&buffer[behind..], &before[behind..room]));
     say::end();
+}
+
+// What write left: the sheet, and the rest.
+fn left(buffer: &[u8], length: usize) {
+    let written = &buffer[0..at_most(length, buffer.len())];
+    say::next(sums::bytes(written));
+    rest(buffer, length);
 }
 
 fn write_into(
@@ -35,7 +47,7 @@ fn write_into(
     left(buffer, w.length());
 }
 
-// A buffer of `room` bytes of 165.
+// A buffer of `room` bytes.
 fn write_room(
     m: u32,
     period: u32,
@@ -45,7 +57,7 @@ fn write_room(
     passengers: &[u32],
     room: usize,
 ) {
-    let mut buffer = [165u8; 4000];
+    let mut buffer = [BEFORE; 4000];
     write_into(
         m,
         period,
@@ -53,7 +65,7 @@ fn write_room(
         driving,
         delays,
         passengers,
-        parts::lent_bytes(&mut buffer, room),
+        &mut buffer[0..at_most(room, 4000)],
     );
 }
 
@@ -69,22 +81,18 @@ fn write_lists(
     room: usize,
 ) {
     let mut departures = [0u32; 70];
-    list(from, parts::lent_numbers(&mut departures, a));
     let mut driving = [0u32; 70];
-    list(from, parts::lent_numbers(&mut driving, b));
     let mut delays = [0u32; 70];
-    list(from, parts::lent_numbers(&mut delays, c));
     let mut passengers = [0u32; 2100];
-    list(from, parts::lent_numbers(&mut passengers, d));
-    write_room(
-        m,
-        period,
-        parts::numbers(&departures, a),
-        parts::numbers(&driving, b),
-        parts::numbers(&delays, c),
-        parts::numbers(&passengers, d),
-        room,
-    );
+    let departures = &mut departures[0..at_most(a, 70)];
+    let driving = &mut driving[0..at_most(b, 70)];
+    let delays = &mut delays[0..at_most(c, 70)];
+    let passengers = &mut passengers[0..at_most(d, 2100)];
+    list(from, departures);
+    list(from, driving);
+    list(from, delays);
+    list(from, passengers);
+    write_room(m, period, departures, driving, delays, passengers, room);
 }
 
 pub fn record(from: i32) {
