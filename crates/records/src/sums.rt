@@ -1,9 +1,11 @@
-// What a list holds, as one number: each place times what stands there, places counted from 1.
-// From the last place down, the sum of what stands behind is added once for each place. A sum is
-// taken modulo 10^18.
-ghost use Prim.Native.Nat.{_<_};
+// What a list holds, as one number: each place, from 1, times what stands there, modulo 10^18.
+// It is worked from the last place down: the sum of what stands from a place on is added once for
+// each place.
+ghost use mathlib.Core.Path.{_≡_};
+ghost use Prim.Native.Nat.{_+_, _<_};
+ghost use Rattle.records.specs.Weighed.{cut, sumOf};
 
-// The sum so far, and the sum of the places passed.
+// The sum so far, and the sum of what stands at the places passed.
 struct Sum {
     total: u64,
     tail: u64,
@@ -11,38 +13,33 @@ struct Sum {
 
 // One place more in front.
 fn with(sum: Sum, value: u64) -> Sum
-    requires { ⌜ (sum .total < 1000000000000000000) ×
-        ((sum .tail < 1000000000000000000) × (value < 1000000000000000000)) ⌝ }
-    ensures { λ r. ⌜ (r .total < 1000000000000000000) × (r .tail < 1000000000000000000) ⌝ }
+    requires { ⌜ (sum .total < 1000000000000000000) × (sum .tail < 1000000000000000000) ⌝ }
+    ensures { λ r. ⌜ (r .tail ≡ cut (sum .tail + value)) ×
+        (r .total ≡ cut (sum .total + r .tail)) ⌝ }
 {
-    let tail = (sum.tail + value) % 1000000000000000000;
+    let tail = (sum.tail + value % 1000000000000000000) % 1000000000000000000;
     let total = (sum.total + tail) % 1000000000000000000;
     Sum { total, tail }
 }
 
 // The number, as wide as a sum.
 fn wide(n: u32) -> u64
-    ensures { λ r. ⌜ r < 4294967296 ⌝ }
+    ensures { λ r. ⌜ r ≡ n ⌝ }
 {
     n as u64
 }
 
 // The byte, as wide as a sum.
 fn wide_byte(b: u8) -> u64
-    ensures { λ r. ⌜ r < 4294967296 ⌝ }
+    ensures { λ r. ⌜ r ≡ b ⌝ }
 {
     b as u64
 }
 
-// The number as a sum takes it, modulo 10^18.
-fn cut(n: u64) -> u64
-    ensures { λ r. ⌜ r < 1000000000000000000 ⌝ }
-{
-    n % 1000000000000000000
-}
-
 // The sum of a list of numbers of four bytes.
-pub fn numbers(list: &[u32]) -> u64 {
+pub fn numbers(list: &[u32]) -> u64
+    ensures { λ r. ⌜ r ≡ sumOf (now (list .entry)) ⌝ }
+{
     let mut sum = Sum { total: 0, tail: 0 };
     let mut k = list.len();
     while 0 < k {
@@ -53,7 +50,9 @@ pub fn numbers(list: &[u32]) -> u64 {
 }
 
 // The sum of a list of bytes.
-pub fn bytes(list: &[u8]) -> u64 {
+pub fn bytes(list: &[u8]) -> u64
+    ensures { λ r. ⌜ r ≡ sumOf (now (list .entry)) ⌝ }
+{
     let mut sum = Sum { total: 0, tail: 0 };
     let mut k = list.len();
     while 0 < k {
@@ -64,12 +63,14 @@ pub fn bytes(list: &[u8]) -> u64 {
 }
 
 // The sum of a list of numbers of eight bytes.
-pub fn longs(list: &[u64]) -> u64 {
+pub fn longs(list: &[u64]) -> u64
+    ensures { λ r. ⌜ r ≡ sumOf (now (list .entry)) ⌝ }
+{
     let mut sum = Sum { total: 0, tail: 0 };
     let mut k = list.len();
     while 0 < k {
         k -= 1;
-        sum = with(sum, cut(list[k]));
+        sum = with(sum, list[k]);
     }
     sum.total
 }

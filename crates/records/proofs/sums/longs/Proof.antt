@@ -1,30 +1,30 @@
--- `sums::longs` is safe and ends: both sums stay below their limit, and the places left fall. Assumes nothing.
+-- `sums::longs` meets its contract: the two sums are those of the places from k on, and k falls. Assumes nothing.
 use borrow.Author.Needs.{needs}
-use Prim.Native.Nat.{_≤_, _<_}
+use mathlib.Core.Path.{refl}
+use Prim.Native.Nat.{_≤_}
 use lib.ListN.{length}
+use Rattle.records.proofs.Weighing.{Worked, worked-none, worked-more, worked-all}
 use Rattle.records.proofs.sums.longs.Statement.{statement}
 use Rattle.records.proofs.sums.longs.Tie as tie
 
 abbrev Inv-loop : tie.InvT-loop
-Inv-loop list sum₀ k₀ sum k = (k ≤ length list) × (sum .total < 1000000000000000000) × (sum .tail < 1000000000000000000)
+Inv-loop list sum₀ k₀ sum k = (k ≤ length list) × Worked list k (sum .total) (sum .tail)
 
 abbrev μ-loop : tie.MeasureT-loop
 μ-loop list sum₀ k₀ sum k = k
 
+-- no place is passed yet
 loop-holds : tie.Need-loop-holds Inv-loop μ-loop
-loop-holds c = search needs
+loop-holds c = (search needs, worked-none _)
 
 sub-k : tie.Need-sub-k Inv-loop μ-loop
 sub-k c = search needs
 
-mul-cut : tie.Need-mul-cut Inv-loop μ-loop
-mul-cut c = search needs
+mul-with : tie.Need-mul-with Inv-loop μ-loop
+mul-with c = search needs
 
-shared-slice-read-cut : tie.Need-shared-slice-read-cut Inv-loop μ-loop
-shared-slice-read-cut c = search needs
-
-cut-requires : tie.Need-cut-requires Inv-loop μ-loop
-cut-requires c κs = search needs
+shared-slice-read-with : tie.Need-shared-slice-read-with Inv-loop μ-loop
+shared-slice-read-with c = search needs
 
 with-requires : tie.Need-with-requires Inv-loop μ-loop
 with-requires c κs = search needs
@@ -32,11 +32,15 @@ with-requires c κs = search needs
 loop-less : tie.Need-loop-less Inv-loop μ-loop
 loop-less c = search needs
 
+-- one place more in front of those passed
 loop-again : tie.Need-loop-again Inv-loop μ-loop
-loop-again c = search needs
+loop-again c =
+    let worked = c .before .before .before .loop .inv .1 in
+    (search needs, worked-more (search needs) (search needs) refl worked (c .with .ensures))
 
+-- no place is left
 returns : tie.Need-returns Inv-loop μ-loop
-returns c = search needs
+returns c = worked-all (search needs) (c .before .loop .inv .1)
 
 pub longs-spec : {M : Type 1} → statement M
 longs-spec =
@@ -46,9 +50,8 @@ longs-spec =
     μ-loop
     loop-holds
     sub-k
-    mul-cut
-    shared-slice-read-cut
-    cut-requires
+    mul-with
+    shared-slice-read-with
     with-requires
     loop-less
     loop-again
