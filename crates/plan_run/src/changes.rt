@@ -14,7 +14,7 @@ fn differs(one: u64, other: u64) -> usize
 }
 
 // How many cells are not as they were.
-pub fn changed(before: &[u64], cells: &[u64]) -> usize {
+fn changed(before: &[u64], cells: &[u64]) -> usize {
     let mut n: usize = 0;
     let mut k = 0;
     while k < cells.len() {
@@ -22,4 +22,11 @@ pub fn changed(before: &[u64], cells: &[u64]) -> usize {
         k += 1;
     }
     n
+}
+
+// Says how many, on a line of its own.
+pub fn show(before: &[u64], cells: &[u64]) {
+    say::word(b"changed");
+    say::next(changed(before, cells) as u64);
+    say::end();
 }

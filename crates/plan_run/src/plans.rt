@@ -1,4 +1,5 @@
 // Records of plan.
+use crate::changes;
 use crate::lengths;
 use crate::lengths::Lengths;
 use crate::marks;
@@ -20,7 +21,7 @@ fn plan_into(
     shown::answer(a);
     if full {
         shown::lists(sheet, a, cells, decisions, delays);
-        shown::changes(&marks::all(), cells);
+        changes::show(&marks::all(), cells);
     } else {
         shown::sums_of(cells, decisions, delays);
         say::end();

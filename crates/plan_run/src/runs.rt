@@ -1,5 +1,6 @@
 // Runs: one sheet and one set of working cells, kept over several steps. A step sets a cell ('C'),
 // plans ('P') or reports a delay ('D').
+use crate::changes;
 use crate::lengths;
 use crate::marks;
 use crate::printed;
@@ -36,7 +37,7 @@ fn show(
         shown::lists(sheet, a, cells, decisions, delays);
         say::word(b"sheet");
         printed::bytes(sheet);
-        shown::changes(before, cells);
+        changes::show(before, cells);
     } else {
         shown::sums_of(cells, decisions, delays);
         say::next(sums::bytes(sheet));

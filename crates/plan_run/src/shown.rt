@@ -1,6 +1,5 @@
 // What plan or report answered and left, as it is printed behind the operation's name.
 ghost use Prim.Native.Nat.{_≤_};
-use crate::changes::changed;
 use crate::printed;
 use planner::Answer;
 use records::sums;
@@ -48,11 +47,4 @@ pub fn lists(sheet: &[u8], a: Answer, cells: &[u64], decisions: &[u8], delays: &
     say::word(b"delays");
     printed::numbers(delays);
     rows(sheet, a, cells);
-}
-
-// How many cells are not as they were.
-pub fn changes(before: &[u64], cells: &[u64]) {
-    say::word(b"changed");
-    say::next(changed(before, cells) as u64);
-    say::end();
 }
