@@ -56,13 +56,14 @@ module _ (m i v : ℕ) (cells : List ℕ) where
       (fine-of-later (h .later))))
 
   -- whatever a row is refused for is that row
-  row-refusal : (k : ℕ) (r : Refusal) → rowVerdict m cells k ≡ Refused r → CellOverLimit k ≡ r
+  row-refusal : (k : ℕ) (r : Refusal) → rowVerdict m cells k ≡ Refused r → CellOverLimit (train k) ≡ r
   unfolding rowVerdict cellVerdict
   row-refusal k =
-      let P : Refusal → Type 0 = λ r. CellOverLimit k ≡ r in
+      let P : Refusal → Type 0 = λ r. CellOverLimit (train k) ≡ r in
       only-first P _ _ _ (λ l. only-then P _ _ (only-below P _ _ _ refl) (only-fine P))
 
-  row-over : (k l : ℕ) → k ≤ l → l ≤ m → limit < tableOf m cells k l → rowVerdict m cells k ≡ Refused (CellOverLimit k)
+  row-over : (k l : ℕ) → k ≤ l → l ≤ m → limit < tableOf m cells k l
+      → rowVerdict m cells k ≡ Refused (CellOverLimit (train k))
   unfolding rowVerdict cellVerdict
   row-over k l a b over = elim (fine-or-refused (rowVerdict m cells k)) [
     | inl fine ↦
@@ -71,7 +72,7 @@ module _ (m i v : ℕ) (cells : List ℕ) where
     | inr (r, e) ↦ e ∙ ap Refused (sym (row-refusal k r e))
   ]
 
-  later-over : (k : ℕ) → FirstOver m i cells k → laterVerdict m cells i ≡ Refused (CellOverLimit k)
+  later-over : (k : ℕ) → FirstOver m i cells k → laterVerdict m cells i ≡ Refused (CellOverLimit (train k))
   unfolding laterVerdict rowVerdict cellVerdict
   later-over k h =
       first-refused (rowVerdict m cells) (i + 1) (m - i) k _ (omega (arith, h .after))
@@ -92,7 +93,7 @@ module _ (m i v : ℕ) (cells : List ℕ) where
   own-too-late a b late = sym (miss _ _ _ _ _ a (miss _ _ _ _ _ b (hit _ _ _ _ late)))
 
   pub own-over : 1 ≤ i → i ≤ m → v ≤ 1440 → (k : ℕ) → FirstOver m i cells k
-      → ownVerdict m i v cells ≡ Refused (CellOverLimit k)
+      → ownVerdict m i v cells ≡ Refused (CellOverLimit (train k))
   unfolding ownVerdict
   own-over a b small k h =
       sym (miss _ _ _ _ _ a (miss _ _ _ _ _ b (miss _ _ _ _ _ small (sym (later-over k h)))))

@@ -18,7 +18,7 @@ use Rattle.cells.specs.Place.{tableOf}
 use Rattle.cells.specs.Given.{LaterInRange}
 
 unfoldable pub cellVerdict : ℕ → List ℕ → ℕ → ℕ → Verdict
-cellVerdict m cells k l = (refuse (CellOverLimit k) when limit below tableOf m cells k l) andThen Fine
+cellVerdict m cells k l = (refuse (CellOverLimit (train k)) when limit below tableOf m cells k l) andThen Fine
 
 unfoldable pub rowVerdict : ℕ → List ℕ → ℕ → Verdict
 rowVerdict m cells k = firstOf (cellVerdict m cells k) k (m + 1 - k)

@@ -26,7 +26,7 @@ fn check_row(cells: &[u64], m: u32, first: Train) -> Verdict
     let mut l = first.leaves().0;
     while l <= m {
         if LIMIT < cell_at(cells, m, first, Station(l)) {
-            return Verdict::Refused(Refusal::CellOverLimit(first.0));
+            return Verdict::Refused(Refusal::CellOverLimit(first));
         }
         l += 1;
     }

@@ -82,7 +82,7 @@ pub record ReportAnswered (C : Calling) (x : C .Beside) (s : List ℕ) (i v : �
   pub too-late : Right C x before → AcceptedSheet s → 1 ≤ i → i ≤ trainsOf s → 1440 < v
       → Carries C (NewDelay (train i)) a
   pub over : Right C x before → AcceptedSheet s → 1 ≤ i → i ≤ trainsOf s → v ≤ 1440 → (k : ℕ)
-      → FirstOver (trainsOf s) i (before .cells) k → Carries C (CellOverLimit k) a
+      → FirstOver (trainsOf s) i (before .cells) k → Carries C (CellOverLimit (train k)) a
   -- A refused report does not change the sheet, and no report changes its length.
   pub sheet : ¬ (C .number a ≡ 0) → t ≡ s
   pub sheet-length : length t ≡ length s

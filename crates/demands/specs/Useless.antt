@@ -18,6 +18,7 @@ use lib.ListN.{replicate}
 use Rattle.lists.specs.Run.{nth, padded}
 use Rattle.rail.specs.declared.Refusal.{Refusal}
 use Rattle.rail.specs.declared.Refusal.the-variants.{CellOverLimit}
+use Rattle.rail.specs.Refusal.{train}
 use Rattle.line.specs.Policy.{Keep}
 use Rattle.line.specs.Cases.{b4}
 use Rattle.cells.specs.Shown.{shown}
@@ -80,4 +81,4 @@ WritesEarlyBreaks =
     → RightLengths before
     → FirstOver 3 1 (before .cells) k
     → Report sheetB 1 5 before t after a
-    → Carries operations (CellOverLimit k) a × (t ≡ sheetB)
+    → Carries operations (CellOverLimit (train k)) a × (t ≡ sheetB)

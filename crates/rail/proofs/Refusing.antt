@@ -72,7 +72,7 @@ number-not-zero (Passengers f) e = omega arith
 number-not-zero Filling e = omega arith
 number-not-zero NoSuchTrain e = omega arith
 number-not-zero (NewDelay t) e = omega arith
-number-not-zero (CellOverLimit k) e = omega arith
+number-not-zero (CellOverLimit t) e = omega arith
 
 -- number 0 is that of no refusal
 pub zero-is-fine : (v : Verdict) → numberIn v ≡ 0 → v ≡ Fine

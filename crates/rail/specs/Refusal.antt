@@ -1,6 +1,7 @@
 -- The number, the place and the blanks of each refusal. Document 01, "Numbers of refusal".
 --   numberOf r   the number that the paper gives to the refusal r
---   placeOf r    its place: a train, a passenger field from 1, a row of cells from 1; 0 where the paper states none
+--   placeOf r    its place: a train, a row of cells being that of the train its run begins with, or a passenger field
+--                from 1; 0 where the paper states none
 --   blanksOf r   whether a plan or a report that is refused for r blanks decisions and delays
 -- Assumes nothing.
 use Prim.Native.Nat.{ℕ}
@@ -31,7 +32,7 @@ numberOf (Passengers f) = 8
 numberOf Filling = 9
 numberOf NoSuchTrain = 11
 numberOf (NewDelay t) = 6
-numberOf (CellOverLimit k) = 12
+numberOf (CellOverLimit t) = 12
 
 abbrev pub placeOf : Refusal → ℕ
 placeOf BufferLength = 0
@@ -49,7 +50,7 @@ placeOf (Passengers f) = f
 placeOf Filling = 0
 placeOf NoSuchTrain = 0
 placeOf (NewDelay t) = t .0
-placeOf (CellOverLimit k) = k
+placeOf (CellOverLimit t) = t .0
 
 -- refusal 10 writes nothing, any other blanks
 abbrev pub blanksOf : Refusal → Bool
@@ -68,4 +69,4 @@ blanksOf (Passengers f) = true
 blanksOf Filling = true
 blanksOf NoSuchTrain = true
 blanksOf (NewDelay t) = true
-blanksOf (CellOverLimit k) = true
+blanksOf (CellOverLimit t) = true

@@ -51,8 +51,7 @@ impl Station {
     }
 }
 
-// Why an input is refused. The place, where there is one, is a train, a passenger field from 1, or
-// a row of cells from 1.
+// Why an input is refused. The place, where there is one, is a train or a passenger field from 1.
 pub enum Refusal {
     // a lent buffer has another length than stated
     BufferLength,
@@ -84,8 +83,9 @@ pub enum Refusal {
     NoSuchTrain,
     // report: new delay over 1,440
     NewDelay(Train),
-    // report: a cell in use in a row after the train is over the limit
-    CellOverLimit(u32),
+    // report: a cell in use in a row after the train is over the limit; the place is the train that
+    // the row's run begins with
+    CellOverLimit(Train),
 }
 
 impl Refusal {
@@ -121,8 +121,8 @@ impl Refusal {
             Refusal::SourceDelay(train) => train.0,
             Refusal::Slack(train) => train.0,
             Refusal::NewDelay(train) => train.0,
+            Refusal::CellOverLimit(first) => first.0,
             Refusal::Passengers(field) => field,
-            Refusal::CellOverLimit(row) => row,
             Refusal::BufferLength => 0,
             Refusal::ListLength => 0,
             Refusal::NoHead => 0,
