@@ -1,4 +1,4 @@
--- Laws of the sums in a square: those who leave, those who board at k or later and leave after l, those aboard.
+-- Laws of the sums: those who board at station k or later and leave train l, or it or a later one, and those aboard.
 -- Assumes nothing.
 use mathlib.Core.Path.{_≡_, _∙_}
 use mathlib.Core.List.{List}

@@ -1,5 +1,5 @@
--- The sums of a line, column by column: in the column of train l each place is the one below it and one pair more.
---   ColumnTo m passengers l before sums n k   the places (k + 1, l) to (l, l) are summed, the last sum being n
+-- The sums of a line, column by column: in the column of train l each is that of the next station and one pair more.
+--   ColumnTo m passengers l before sums n k   the sums of stations k + 1 to l stand there, the last stored being n
 -- Assumes nothing.
 use mathlib.Core.Path.{_≡_, refl, sym, _∙_}
 use mathlib.Core.List.{List}
@@ -11,9 +11,9 @@ use lib.ListN.{length, set, length-set}
 use lib.Seq.{getD-set-same, getD-set-other}
 use Rattle.lists.proofs.Order.{same-or-not}
 use Rattle.line.proofs.Sums.{over, sum-over, over-none, over-first}
-use Rattle.cells.specs.Place.{square}
-use Rattle.cells.specs.Given.{leavingIn}
+use Rattle.cells.specs.Given.{placeOfSum, leavingIn}
 use Rattle.cells.specs.Summed.{pairIn, SumAt, ColumnSummed}
+use Rattle.cells.proofs.Places.{place-of-sum-one}
 
 pub record ColumnTo (m : ℕ) (passengers : List ℕ) (l : ℕ) (before sums : List ℕ) (n k : ℕ) : Type 0 where
   pub most : k ≤ l
@@ -24,19 +24,23 @@ pub record ColumnTo (m : ℕ) (passengers : List ℕ) (l : ℕ) (before sums : L
   pub below : (i : ℕ) → l < i → leavingIn sums i l ≡ leavingIn before i l
   pub others : (i t : ℕ) → 1 ≤ t → t ≤ 64 → ¬ (t ≡ l) → leavingIn sums i t ≡ leavingIn before i t
 
--- place (k, l) is stored: it holds the number, and other columns and rows are as they were
-module _ (sums : List ℕ) (p k l v : ℕ) (at : p ≡ square k l) (first : 1 ≤ k) (column : 1 ≤ l) (most : l ≤ 64) where
+-- the sum of station k and train l is stored: its place holds it, and other stations and trains are as they were
+module _ (sums : List ℕ) (p k l v : ℕ) (at : p ≡ placeOfSum k l) (first : 1 ≤ k) (column : 1 ≤ l) (most : l ≤ 64) where
   stored-here : p < length sums → leavingIn (set sums p v) k l ≡ v
   unfolding leavingIn
   stored-here b = rw (sym at) (getD-set-same sums p v 0 b)
 
   stored-row : (i : ℕ) → 1 ≤ i → ¬ (i ≡ k) → leavingIn (set sums p v) i l ≡ leavingIn sums i l
-  unfolding leavingIn square
-  stored-row i a n = getD-set-other sums p (64 * (i - 1) + (l - 1)) v 0 (λ e. n (omega arith))
+  unfolding leavingIn
+  stored-row i a n =
+      getD-set-other sums p (placeOfSum i l) v 0
+      (λ e. n (omega (arith, place-of-sum-one i l k l column most column most (e ∙ at))))
 
   stored-column : (i t : ℕ) → 1 ≤ t → t ≤ 64 → ¬ (t ≡ l) → leavingIn (set sums p v) i t ≡ leavingIn sums i t
-  unfolding leavingIn square
-  stored-column i t a b n = getD-set-other sums p (64 * (i - 1) + (t - 1)) v 0 (λ e. n (omega arith))
+  unfolding leavingIn
+  stored-column i t a b n =
+      getD-set-other sums p (placeOfSum i t) v 0
+      (λ e. n (place-of-sum-one i t k l a b column most (e ∙ at) .1))
 
 module _ (m : ℕ) (passengers : List ℕ) (l : ℕ) (before : List ℕ) where
   abbrev pairs : ℕ → ℕ
@@ -55,7 +59,7 @@ module _ (m : ℕ) (passengers : List ℕ) (l : ℕ) (before : List ℕ) where
       }
 
   module _ (sums : List ℕ) (n k p v : ℕ) (C : ColumnTo m passengers l before sums n k) (first : 1 ≤ k) (most : l ≤ 64)
-      (at : p ≡ square k l) (room : p < length sums) (e : v ≡ pairs k) (few : v ≤ 10000) where
+      (at : p ≡ placeOfSum k l) (room : p < length sums) (e : v ≡ pairs k) (few : v ≤ 10000) where
     next-sum : n + v ≡ over k (l + 1) pairs
     next-sum = omega (arith, C .here, over-first k (l + 1) pairs (omega (arith, C .most)), e)
 

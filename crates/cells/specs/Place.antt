@@ -1,6 +1,5 @@
--- Where the working cells stand. Document 01, "The working cells". Cell (k, l) is in use where 1 ≤ k ≤ l ≤ m; places
--- count from 0.
---   square k l                    row k, column l of a square of 64 by 64 numbers, row after row
+-- Where the working cells stand. Document 01, "The working cells". Cell (k, l), of the run that begins with train k and
+-- of station l, is in use where 1 ≤ k ≤ l ≤ m; places count from 0.
 --   place m k l                   where cell (k, l) of a line of m trains stands
 --   tableOf m cells               the table that a list of cells holds for m trains
 --   InRow m k p                   p is the place of a cell in use of row k
@@ -14,12 +13,9 @@ use lib.ListN.{length, getD}
 use Rattle.lists.specs.Choice.{ifBelow}
 use Rattle.line.specs.Cells.{Table, Book, Worked}
 
-unfoldable pub square : ℕ → ℕ → ℕ
-square k l = 64 * (k - 1) + (l - 1)
-
 -- Cell (k, l) stands at 64(k-1)+(l-1), whatever the number of trains.
 unfoldable pub place : ℕ → ℕ → ℕ → ℕ
-place m k l = square k l
+place m k l = 64 * (k - 1) + (l - 1)
 
 -- For l = m + 1 the value is 0 and isn't stored: what stands after a row is no cell of it.
 unfoldable pub tableOf : ℕ → List ℕ → Table

@@ -1,9 +1,9 @@
 -- The sums of a line, from its passenger fields. Document 01, "The working cells": those who board at k to l and leave
--- at l + 1, in place (k, l) of the square.
+-- at l + 1, in the place of station k and train l.
 --   pairIn m passengers i j         those who board at i and leave at j
 --   Fields                          the fields of a line, each at most 10,000
---   SumAt, ColumnSummed, Summed     one place, one column and all columns hold their sums, down to their own row
---   Boarders m sums boarding        by train l, those who board at l or later and leave
+--   SumAt, ColumnSummed, Summed     one place, the column of one train and all columns hold their sums
+--   Boarders m sums boarding        by station l, those who board at l or later
 -- Assumes nothing.
 use Prim.Native.Nat.{ℕ, _+_, _≤_, _<_}
 use mathlib.Core.Path.{_≡_}
@@ -25,11 +25,11 @@ pub record Fields (m : ℕ) (passengers : List ℕ) : Type 0 where
   pub long : pairsOf m ≤ length passengers
   pub most : (f : ℕ) → 1 ≤ f → f ≤ pairsOf m → nth passengers f ≤ 10000
 
--- those who board at k to l and leave train l, in place (k, l)
+-- those who board at stations k to l and leave train l, in the place of station k and train l
 abbrev pub SumAt : ℕ → List ℕ → List ℕ → ℕ → ℕ → Type 0
 SumAt m passengers sums k l = leavingIn sums k l ≡ sum (λ i. pairIn m passengers i (l + 1)) from k to l
 
--- the column of train l is summed down to its own row, every other place is as it was
+-- the column of train l is summed down to the station that it leaves, every other place is as it was
 pub record ColumnSummed (m : ℕ) (passengers : List ℕ) (l : ℕ) (before after : List ℕ) : Type 0 where
   pub long : length after ≡ length before
   pub summed : (k : ℕ) → 1 ≤ k → k ≤ l → SumAt m passengers after k l
@@ -43,7 +43,7 @@ pub record Summed (m : ℕ) (passengers before after : List ℕ) : Type 0 where
   pub below : (k l : ℕ) → 1 ≤ l → l < k → l ≤ m → leavingIn after k l ≡ leavingIn before k l
   pub past : (k l : ℕ) → m < l → l ≤ 64 → leavingIn after k l ≡ leavingIn before k l
 
--- by train l, those who board at l or later and leave; the rest 0
+-- by station l, those who board at l or later; the rest 0
 pub record Boarders (m : ℕ) (sums boarding : List ℕ) : Type 0 where
   pub long : length boarding ≡ 64
   pub held : (l : ℕ) → 1 ≤ l → l ≤ m → nth boarding l ≡ boardedIn m sums l l

@@ -1,18 +1,10 @@
-// Where the cells stand, which no other file knows; and the square in which the sums stand.
+// Where the cells stand, which no other file knows.
 ghost use mathlib.Core.Path.{_≡_};
-ghost use Prim.Native.Nat.{_+_, _≤_, _<_};
+ghost use Prim.Native.Nat.{_≤_};
 ghost use lib.ListN.{length};
-ghost use Rattle.cells.specs.Place.{square, place, tableOf};
+ghost use Rattle.cells.specs.Place.{place, tableOf};
 use rail::Station;
 use rail::Train;
-
-// Row and column of a square of 64 by 64 numbers.
-pub fn square(row: u32, column: u32) -> usize
-    requires { ⌜ (1 ≤ row) × (row ≤ 64) × (1 ≤ column) × (column ≤ 64) ⌝ }
-    ensures { λ r. ⌜ (r ≡ square row column) × (r < 4096) ⌝ }
-{
-    64 * (row as usize - 1) + (column as usize - 1)
-}
 
 // The cell of the run from `first` at station `at`, of a line of `m` trains. In this layout it
 // stands in the same place whatever `m` is.
@@ -20,7 +12,7 @@ pub fn place(m: u32, first: Train, at: Station) -> usize
     requires { ⌜ (1 ≤ first .0) × (first .0 ≤ at .0) × (at .0 ≤ m) × (m ≤ 64) ⌝ }
     ensures { λ r. ⌜ r ≡ place m (first .0) (at .0) ⌝ }
 {
-    square(first.0, at.0)
+    64 * first.index() + at.index()
 }
 
 // What that cell holds; 0 at the last station, for which none is stored.

@@ -1,17 +1,25 @@
-// How many leave each train, by where they boarded: place (k, l) of a square holds those who board
-// at station k or later and leave train l.
+// How many leave each train, by where they boarded: for station k and train l, those who board at
+// station k or later and leave train l.
 ghost use mathlib.Core.Path.{_≡_};
-ghost use Prim.Native.Nat.{_-_, _≤_};
+ghost use Prim.Native.Nat.{_-_, _≤_, _<_};
 ghost use lib.ListN.{length};
 ghost use Rattle.line.specs.Ranges.{everyone};
 ghost use Rattle.sheet.specs.Pairs.{IsPair};
-ghost use Rattle.cells.specs.Given.{leavingIn, boardedIn, SumsGiven};
+ghost use Rattle.cells.specs.Given.{placeOfSum, leavingIn, boardedIn, SumsGiven};
 ghost use Rattle.cells.specs.Summed.{pairIn, Fields, ColumnSummed, Summed, Boarders};
-use crate::place::square;
 use crate::times::wide;
 use rail::Station;
 use rail::Train;
 use sheet::format::field_of_pair;
+
+// Where the sum stands of those who board at `from` or later and leave `train`; no other function
+// knows.
+fn place_of_sum(from: Station, train: Train) -> usize
+    requires { ⌜ (1 ≤ from .0) × (from .0 ≤ 64) × (1 ≤ train .0) × (train .0 ≤ 64) ⌝ }
+    ensures { λ r. ⌜ (r ≡ placeOfSum (from .0) (train .0)) × (r < 4096) ⌝ }
+{
+    64 * from.index() + train.index()
+}
 
 // Those who board at one station and leave at another.
 fn pair(passengers: &[u32], m: u32, from: Station, to: Station) -> u32
@@ -34,8 +42,9 @@ fn sum_column(sums: &mut [u32], passengers: &[u32], m: u32, train: Train)
     let mut sum: u32 = 0;
     let mut k = last.0;
     while 0 < k {
-        sum += pair(passengers, m, Station(k), to);
-        let at = square(k, train.0);
+        let from = Station(k);
+        sum += pair(passengers, m, from, to);
+        let at = place_of_sum(from, train);
         sums[at] = sum;
         k -= 1;
     }
@@ -53,32 +62,32 @@ pub fn sum_columns(sums: &mut [u32], passengers: &[u32], m: u32)
     }
 }
 
-// Those who board at `first` or later and leave `train`.
-pub fn leaving(sums: &[u32], m: u32, first: Train, train: Train) -> u64
-    requires { ⌜ SumsGiven m (now sums) × (1 ≤ first .0) × (first .0 ≤ train .0) ×
+// Those who board at `from` or later and leave `train`.
+pub fn leaving(sums: &[u32], m: u32, from: Station, train: Train) -> u64
+    requires { ⌜ SumsGiven m (now sums) × (1 ≤ from .0) × (from .0 ≤ train .0) ×
         (train .0 ≤ m) ⌝ }
-    ensures { λ r. ⌜ (r ≡ leavingIn (now (sums .entry)) (first .0) (train .0)) ×
+    ensures { λ r. ⌜ (r ≡ leavingIn (now (sums .entry)) (from .0) (train .0)) ×
         (r ≤ everyone) ⌝ }
 {
-    wide(sums, square(first.0, train.0))
+    wide(sums, place_of_sum(from, train))
 }
 
-// Those who board at `first` or later and leave `train` or a later one.
-pub fn boarded(sums: &[u32], m: u32, first: Train, train: Train) -> u64
-    requires { ⌜ SumsGiven m (now sums) × (1 ≤ first .0) × (first .0 ≤ train .0) ×
+// Those who board at `from` or later and leave `train` or a later one.
+pub fn boarded(sums: &[u32], m: u32, from: Station, train: Train) -> u64
+    requires { ⌜ SumsGiven m (now sums) × (1 ≤ from .0) × (from .0 ≤ train .0) ×
         (train .0 ≤ m) ⌝ }
-    ensures { λ r. ⌜ r ≡ boardedIn m (now (sums .entry)) (first .0) (train .0) ⌝ }
+    ensures { λ r. ⌜ r ≡ boardedIn m (now (sums .entry)) (from .0) (train .0) ⌝ }
 {
     let mut sum: u64 = 0;
     let mut t = m;
     while train.0 <= t {
-        sum += leaving(sums, m, first, Train(t));
+        sum += leaving(sums, m, from, Train(t));
         t -= 1;
     }
     sum
 }
 
-// By train, those who board it or a later one; the rest 0.
+// By station, those who board there or later; the rest 0.
 pub fn boarders(sums: &[u32], m: u32) -> [u64; 64]
     requires { ⌜ SumsGiven m (now sums) ⌝ }
     ensures { λ r. ⌜ Boarders m (now (sums .entry)) r ⌝ }
@@ -87,7 +96,8 @@ pub fn boarders(sums: &[u32], m: u32) -> [u64; 64]
     let mut i = 1;
     while i <= m {
         let train = Train(i);
-        list[train.index()] = boarded(sums, m, train, train);
+        let from = train.leaves();
+        list[from.index()] = boarded(sums, m, from, train);
         i += 1;
     }
     list

@@ -35,15 +35,17 @@ fn keep_along(
     ensures { λ _. ⌜ Keeps m (first .0) (now (slack .entry)) (now (source .entry))
         (now (sums .entry)) (now (excess .exit)) (now (keep .exit)) ⌝ }
 {
+    let from = first.leaves();
     let mut late: u64 = 0;
     let mut i = first.0;
     while i <= m {
         let train = Train(i);
-        let over = excess_at(slack, train.leaves(), late);
+        let station = train.leaves();
+        let over = excess_at(slack, station, late);
         late = arrives(source, train, over);
-        let k = train.index();
+        let k = station.index();
         excess[k] = over;
-        keep[k] = cost(leaving(sums, m, first, train), late);
+        keep[k] = cost(leaving(sums, m, from, train), late);
         i += 1;
     }
 }
@@ -55,16 +57,18 @@ fn go_along(go: &mut [u64], first: Train, m: u32, period: &[u32], sums: &[u32], 
     ensures { λ _. ⌜ Goes m (first .0) (now (period .entry)) (now (sums .entry))
         (now (go .exit)) ⌝ }
 {
+    let from = first.leaves();
     let mut sum: u64 = 0;
     let mut i = m;
     while first.0 < i {
         let train = Train(i);
-        let k = train.index();
-        sum += leaving(sums, m, first, train);
-        go[k] = cost(sum - boarding[k], period_at(period, train.leaves()));
+        let station = train.leaves();
+        let k = station.index();
+        sum += leaving(sums, m, from, train);
+        go[k] = cost(sum - boarding[k], period_at(period, station));
         i -= 1;
     }
-    go[first.index()] = 0;
+    go[from.index()] = 0;
 }
 
 // The lesser of the two choices; without an excess only keep is one.

@@ -33,7 +33,7 @@ fn keep_cost(cells: &[u64], m: u32, first: Train, train: Train, late: u64, sums:
     ensures { λ r. ⌜ r ≡ leavingIn (now (sums .entry)) (first .0) (train .0) * late
         + tableOf m (now (cells .entry)) (first .0) (train .0 + 1) ⌝ }
 {
-    cost(leaving(sums, m, first, train), late) + cell_at(cells, m, first, train.reaches())
+    cost(leaving(sums, m, first.leaves(), train), late) + cell_at(cells, m, first, train.reaches())
 }
 
 // What go costs there.
@@ -44,8 +44,8 @@ fn go_cost(cells: &[u64], m: u32, first: Train, train: Train, period: &[u32], su
         aboardIn m (now (sums .entry)) (first .0) (train .0)
         + tableOf m (now (cells .entry)) (train .0) (train .0) ⌝ }
 {
-    let aboard = boarded(sums, m, first, train) - boarded(sums, m, train, train);
     let station = train.leaves();
+    let aboard = boarded(sums, m, first.leaves(), train) - boarded(sums, m, station, train);
     cost(aboard, period_at(period, station)) + cell_at(cells, m, train, station)
 }
 

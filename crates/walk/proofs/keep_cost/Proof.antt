@@ -4,10 +4,12 @@ use borrow.Author.Needs.{needs}
 use mathlib.Core.Path.{ap, ap₂, _∙_}
 use Prim.Native.Nat.{ℕ, _+_, _*_}
 use native.Mathlib.Omega.{arith}
-use Rattle.cells.specs.Place.{tableOf}
 use Rattle.cells.proofs.Bounded.{cell-le}
 use Rattle.walk.proofs.keep_cost.Statement.{statement}
 use Rattle.walk.proofs.keep_cost.Tie as tie
+
+leaves-requires : tie.Need-leaves-requires
+leaves-requires c κs = search needs
 
 leaving-requires : tie.Need-leaving-requires
 leaving-requires c κs = search needs
@@ -24,7 +26,7 @@ cell-at-requires c κs = search needs
 -- the cell is at most the limit, as the cost is
 add-result : tie.Need-add-result
 add-result c =
-    let start = c .before .before .before .before .before .before in
+    let start = c .before .before .before .before .before .before .before in
     let cell = cell-le (start .args .m) (start .args .cells .now) (start .pre .2) in
     omega (arith, cell (start .args .first .0) (c .before .reaches .result .0) (omega arith) (omega arith))
 
@@ -32,12 +34,13 @@ add-result c =
 returns : tie.Need-returns
 returns c =
     let costed = c .before .before in
-    let start = costed .before .before .before .before .args in
+    let start = costed .before .before .before .before .before .args in
+    let left = rw (costed .before .before .leaves .ensures) at (costed .before .leaving .ensures .0) in
     ap₂ _+_
-    (costed .cost .ensures .0 ∙ ap (λ (x : ℕ). x * start .late) (costed .before .leaving .ensures .0))
-    (c .cell-at .ensures ∙ ap (tableOf (start .m) (start .cells .now) (start .first .0)) (c .before .reaches .ensures))
+    (costed .cost .ensures .0 ∙ ap (λ (x : ℕ). x * start .late) left)
+    (rw (c .before .reaches .ensures) at (c .cell-at .ensures))
 
 pub keep-cost-spec : {M : Type 1} → statement M
 keep-cost-spec =
     tie.close
-    (tie.spec leaving-requires cost-requires reaches-requires cell-at-requires add-result returns)
+    (tie.spec leaves-requires leaving-requires cost-requires reaches-requires cell-at-requires add-result returns)

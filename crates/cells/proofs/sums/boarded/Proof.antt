@@ -11,11 +11,11 @@ use Rattle.cells.proofs.sums.boarded.Statement.{statement}
 use Rattle.cells.proofs.sums.boarded.Tie as tie
 
 abbrev Inv-loop : tie.InvT-loop
-Inv-loop sums m first train sum₀ t₀ sum t =
-    (train .0 ≤ t + 1) × (t ≤ m) × (sum ≡ boardedIn m sums (first .0) (t + 1))
+Inv-loop sums m from train sum₀ t₀ sum t =
+    (train .0 ≤ t + 1) × (t ≤ m) × (sum ≡ boardedIn m sums (from .0) (t + 1))
 
 abbrev μ-loop : tie.MeasureT-loop
-μ-loop sums m first train sum₀ t₀ sum t = t
+μ-loop sums m from train sum₀ t₀ sum t = t
 
 -- nobody leaves after the last train
 loop-holds : tie.Need-loop-holds Inv-loop μ-loop
@@ -27,14 +27,14 @@ leaving-requires c κs = search needs
 -- with those who leave train t
 counted : (c : tie.After-leaving Inv-loop μ-loop) →
     let start = c .before .before .before .before .before .args in
-    let n = boardedIn (start .m) (start .sums .now) (start .first .0) (c .before .before .before .loop .t) in
+    let n = boardedIn (start .m) (start .sums .now) (start .from .0) (c .before .before .before .loop .t) in
     (c .before .before .before .loop .sum + c .leaving .result ≡ n) × (n ≤ everyone)
 counted c =
     let start = c .before .before .before .before .before in
     let at-loop = c .before .before .before .loop in
     let m = start .args .m in
     let sums = start .args .sums .now in
-    let k = start .args .first .0 in
+    let k = start .args .from .0 in
     let inside : k ≤ at-loop .t = omega (arith, start .pre .2) in (
       omega (arith, c .leaving .ensures .0, at-loop .inv .2, boarded-first m sums k (at-loop .t) (at-loop .inv .1)),
       boarded-le m sums (start .pre .0) k (at-loop .t) (start .pre .1) inside (at-loop .inv .1),

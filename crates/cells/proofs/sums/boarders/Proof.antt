@@ -25,17 +25,27 @@ abbrev μ-loop : tie.MeasureT-loop
 loop-holds : tie.Need-loop-holds Inv-loop μ-loop
 loop-holds c = (omega arith, omega arith, refl, λ l a b. absurd (omega arith), λ l a. zeros-at 64 (l - 1))
 
+leaves-requires : tie.Need-leaves-requires Inv-loop μ-loop
+leaves-requires c κs = search needs
+
 boarded-requires : tie.Need-boarded-requires Inv-loop μ-loop
 boarded-requires c κs = search needs
 
 index-requires : tie.Need-index-requires Inv-loop μ-loop
 index-requires c κs = search needs
 
--- the train is one of 64
-within : (c : tie.After-index Inv-loop μ-loop) → (c .index .result < 64) × (c .before .before .before .loop .i ≤ 64)
+abbrev turn-of : tie.After-index Inv-loop μ-loop → tie.In-loop Inv-loop μ-loop
+turn-of c = c .before .before .before
+
+-- the station that train i leaves stands where train i does, and is one of 64
+here : (c : tie.After-index Inv-loop μ-loop) → c .index .result ≡ turn-of c .before .loop .i - 1
+here c = omega (arith, c .index .ensures, c .before .before .leaves .ensures)
+
+within : (c : tie.After-index Inv-loop μ-loop) → (c .index .result < 64) × (turn-of c .before .loop .i ≤ 64)
 within c =
-    let most = c .before .before .before .before .before .pre .trains in
-    (omega (arith, c .index .ensures), omega arith)
+    let most = turn-of c .before .before .before .pre .trains in
+    let taken = turn-of c .loop-test .taken in
+    (omega (arith, here c), omega arith)
 
 mul-list : tie.Need-mul-list Inv-loop μ-loop
 mul-list c = omega (arith, within c)
@@ -52,16 +62,17 @@ loop-less c = search needs
 -- one train more
 loop-again : tie.Need-loop-again Inv-loop μ-loop
 loop-again c =
-    let at-loop = c .before .before .before .loop in
-    let inv = at-loop .inv in (
+    let at-loop = turn-of c .before .loop in
+    let inv = at-loop .inv in
+    let counted = rw (c .before .before .leaves .ensures) at (c .before .boarded .ensures) in (
       omega arith,
       omega arith,
       simp length-set (inv .2),
-      held-set (at-loop .list) (c .index .result) (at-loop .i) _ (c .index .ensures) (inv .0) _ 1 (at-loop .i + 1)
-          (omega arith) (omega (arith, within c, inv .2)) (c .before .boarded .ensures)
+      held-set (at-loop .list) (c .index .result) (at-loop .i) _ (here c) (inv .0) _ 1 (at-loop .i + 1)
+          (omega arith) (omega (arith, within c, inv .2)) counted
           (λ l a b n. inv .3 l a (omega arith)),
       λ l a.
-          nth-set-other (at-loop .list) (c .index .result) (at-loop .i) _ (c .index .ensures) (inv .0) l (omega arith)
+          nth-set-other (at-loop .list) (c .index .result) (at-loop .i) _ (here c) (inv .0) l (omega arith)
           (λ e. omega arith) ∙ inv .4 l (omega arith),
     )
 
@@ -78,6 +89,7 @@ boarders-spec =
     Inv-loop
     μ-loop
     loop-holds
+    leaves-requires
     boarded-requires
     index-requires
     mul-list

@@ -1,4 +1,4 @@
--- `sums::sum_column` meets its contract. Invariant: the places of the column from k + 1 on are summed. Measure: k.
+-- `sums::sum_column` meets its contract. Invariant: the sums of the stations from k + 1 on stand. Measure: k.
 -- Assumes nothing.
 use borrow.Author.Needs.{needs}
 use mathlib.Core.Path.{ap, sym, subst, _∙_}
@@ -52,9 +52,9 @@ pair-requires c κs =
 add-sum : tie.Need-add-sum Inv-loop μ-loop
 add-sum c = omega (arith, c .before .before .loop .inv .small, c .pair .ensures .1, room (c .before))
 
--- row and column are at most 64
-square-requires : tie.Need-square-requires Inv-loop μ-loop
-square-requires c κs =
+-- station and train are at most 64
+place-of-sum-requires : tie.Need-place-of-sum-requires Inv-loop μ-loop
+place-of-sum-requires c κs =
     let turn = c .before in
     let some = turn .loop-test .taken in
     (omega arith, omega (arith, turn .before .loop .inv .most, room turn), start-of turn .pre .2, room turn)
@@ -62,11 +62,12 @@ square-requires c κs =
 mul-sums : tie.Need-mul-sums Inv-loop μ-loop
 mul-sums c = search needs
 
--- a place of the square is one of 4,096
-within : (c : tie.After-square Inv-loop μ-loop) → c .square .result < length (c .before .before .before .loop .sums)
+-- a place of a sum is one of 4,096
+within : (c : tie.After-place-of-sum Inv-loop μ-loop) →
+    c .place-of-sum .result < length (c .before .before .before .loop .sums)
 within c =
     let turn = c .before .before in
-    omega (arith, c .square .ensures .1, turn .before .loop .inv .long, start-of turn .pre .1)
+    omega (arith, c .place-of-sum .ensures .1, turn .before .loop .inv .long, start-of turn .pre .1)
 
 slice-write-sums : tie.Need-slice-write-sums Inv-loop μ-loop
 slice-write-sums c = within c
@@ -77,16 +78,17 @@ sub-k c = search needs
 loop-less : tie.Need-loop-less Inv-loop μ-loop
 loop-less c = search needs
 
--- place (k, l) is the one below it and one pair more
+-- the sum of station k is that of the next station and one pair more
 loop-again : tie.Need-loop-again Inv-loop μ-loop
 loop-again c =
     let turn = c .before .before in
     let at-loop = turn .before .loop in
     let start = start-of turn .args in
     let pair = c .before .pair in
+    let place = c .place-of-sum in
     let to = turn .before .before .reaches .ensures in
-    column-next _ _ _ _ (at-loop .sums) (at-loop .sum) (at-loop .k) (c .square .result) (pair .result) (at-loop .inv)
-    (omega (arith, turn .loop-test .taken)) (room turn) (c .square .ensures .0) (within c)
+    column-next _ _ _ _ (at-loop .sums) (at-loop .sum) (at-loop .k) (place .result) (pair .result) (at-loop .inv)
+    (omega (arith, turn .loop-test .taken)) (room turn) (place .ensures .0) (within c)
     (pair .ensures .0 ∙ ap (pairIn (start .m) (start .passengers .now) (at-loop .k)) to)
     (pair .ensures .1)
 
@@ -108,7 +110,7 @@ sum-column-spec =
     loop-holds
     pair-requires
     add-sum
-    square-requires
+    place-of-sum-requires
     mul-sums
     slice-write-sums
     sub-k
