@@ -31,7 +31,7 @@ pub record Goes (m k : ℕ) (period sums go : List ℕ) : Type 0 where
   pub first : nth go k ≡ 0
   pub gone : (l : ℕ) → k < l → l ≤ m → nth go l ≡ nth period l * aboardIn m sums k l
 
--- cells (l, l) of the rows after t; 0 up to t
+-- by station l, cell (l, l), for the rows after t; 0 up to t
 pub record Diagonal (m t : ℕ) (cells diagonal : List ℕ) : Type 0 where
   pub long : length diagonal ≡ 64
   pub held : (l : ℕ) → t < l → l ≤ m → nth diagonal l ≡ tableOf m cells l l

@@ -81,7 +81,7 @@ fn lesser(excess: u64, keep: u64, go: u64) -> u64
     if go < keep { go } else { keep }
 }
 
-// The row of `first`, from its last cell back to its first.
+// The row of `first`, from its last cell back to its first. The other lists are by station.
 fn fill_row(
     row: &mut [u64],
     first: Train,
@@ -95,7 +95,7 @@ fn fill_row(
     ensures { λ _. ⌜ RowFilled (first .0) (now (excess .entry)) (now (keep .entry))
         (now (go .entry)) (now (diagonal .entry)) (now (row .entry)) (now (row .exit)) ⌝ }
 {
-    let start = first.index();
+    let start = first.leaves().index();
     let mut next: u64 = 0;
     let mut j = row.len();
     while 0 < j {
@@ -106,7 +106,7 @@ fn fill_row(
     }
 }
 
-// The first cells of the rows after `last`.
+// By station, the first cell of the row that begins there, for the rows after `last`; the rest 0.
 fn diagonal_after(cells: &[u64], m: u32, last: Train) -> [u64; 64]
     requires { ⌜ (last .0 ≤ m) × (m ≤ 64) × (length (now cells) ≡ 4096) ⌝ }
     ensures { λ r. ⌜ Diagonal m (last .0) (now (cells .entry)) r ⌝ }
@@ -115,7 +115,8 @@ fn diagonal_after(cells: &[u64], m: u32, last: Train) -> [u64; 64]
     let mut i = last.0 + 1;
     while i <= m {
         let train = Train(i);
-        diagonal[train.index()] = cell_at(cells, m, train, train.leaves());
+        let at = train.leaves();
+        diagonal[at.index()] = cell_at(cells, m, train, at);
         i += 1;
     }
     diagonal
@@ -192,7 +193,7 @@ pub fn work_rows(
             &boarding,
             &diagonal,
         );
-        diagonal[train.index()] = cell;
+        diagonal[train.leaves().index()] = cell;
         i -= 1;
     }
 }

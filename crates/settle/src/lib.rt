@@ -1,7 +1,7 @@
 // The work on accepted numbers, which plan does from the last train and a report from its own: the
 // rows of cells, the decisions and delays read off them, and the total.
 ghost use mathlib.Core.Path.{_≡_};
-ghost use Prim.Native.Nat.{ℕ, _+_, _-_, _≤_};
+ghost use Prim.Native.Nat.{ℕ, _-_, _≤_};
 ghost use Rattle.lists.specs.Run.{nth};
 ghost use Rattle.line.specs.Cells.{bookOf};
 ghost use Rattle.cells.specs.Given.{bookIn, Given};
@@ -44,7 +44,7 @@ fn slacks<'a>(m: u32, departures: &'a [u32], driving: &'a [u32]) -> [u32; 64]
     let mut i = 2;
     while i <= m {
         let train = Train(i);
-        list[train.index()] = slack(train, departures, driving);
+        list[train.leaves().index()] = slack(train, departures, driving);
         i += 1;
     }
     list

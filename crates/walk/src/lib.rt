@@ -130,8 +130,8 @@ pub fn follow(
     let mut decisions = [0u8; 64];
     let mut delays = [0u32; 64];
     let mut first = Train(1);
-    let mut late = arrives(source, Train(1), 0);
-    delays[0] = late as u32;
+    let mut late = arrives(source, first, 0);
+    delays[first.index()] = late as u32;
     let mut i = 2;
     while i <= m {
         let train = Train(i);

@@ -1,7 +1,7 @@
 -- `diagonal_after` meets its contract. Invariant: the entries before i are held. Measure: the rows left.
 -- Assumes nothing.
 use borrow.Author.Needs.{needs}
-use mathlib.Core.Path.{_≡_, refl, ap, _∙_}
+use mathlib.Core.Path.{_≡_, refl, _∙_}
 use Prim.Native.Nat.{ℕ, _+_, _-_, _≤_, _<_}
 use native.Mathlib.Nat.{le-refl}
 use native.Mathlib.Omega.{arith}
@@ -45,10 +45,7 @@ cell-here : (c : tie.After-cell-at Inv-loop μ-loop) →
     let start = c .before .before .before .before .before .before .args in
     let i = c .before .before .before .loop .i in
     c .cell-at .result ≡ tableOf (start .m) (start .cells .now) i i
-cell-here c =
-    let start = c .before .before .before .before .before .before .args in
-    let i = c .before .before .before .loop .i in
-    c .cell-at .ensures ∙ ap (tableOf (start .m) (start .cells .now) i) (c .before .leaves .ensures)
+cell-here c = rw (c .before .leaves .ensures) at (c .cell-at .ensures)
 
 index-requires : tie.Need-index-requires Inv-loop μ-loop
 index-requires c κs = search needs
@@ -73,7 +70,7 @@ loop-again c =
     let I = at-loop .inv in
     let first = start .args .last .0 + 1 in
     let pos : 1 ≤ at-loop .i = omega (arith, I .0, I .1) in
-    let at = c .index .ensures in (
+    let at = rw (c .before .before .leaves .ensures) at (c .index .ensures) in (
       omega (arith, I .0),
       I .1,
       omega arith,

@@ -1,7 +1,7 @@
 -- `fill_row` meets its contract. Invariant: the cells from j on are filled. Measure: j.
 -- Assumes nothing.
 use borrow.Author.Needs.{needs}
-use mathlib.Core.Path.{refl}
+use mathlib.Core.Path.{_≡_, refl}
 use Prim.Native.Nat.{_+_, _-_, _≤_, _<_}
 use native.Mathlib.Omega.{arith}
 use lib.ListN.{length, getD}
@@ -18,6 +18,9 @@ Inv-loop row₀ excess keep go diagonal start next₀ j₀ row next j =
 abbrev μ-loop : tie.MeasureT-loop
 μ-loop row₀ excess keep go diagonal start next₀ j₀ row next j = j
 
+leaves-requires : tie.Need-leaves-requires Inv-loop μ-loop
+leaves-requires c κs = search needs
+
 index-requires : tie.Need-index-requires Inv-loop μ-loop
 index-requires c κs = search needs
 
@@ -28,22 +31,26 @@ loop-holds c = filled-start _ _ _ _ _ _ _ refl
 sub-j : tie.Need-sub-j Inv-loop μ-loop
 sub-j c = search needs
 
+abbrev start-of : tie.At-loop Inv-loop μ-loop → tie.Start Inv-loop μ-loop
+start-of c = c .before .before .before .before .before .before .before .before
+
+-- the row begins at the station that its train leaves
+here : (c : tie.At-loop Inv-loop μ-loop) → c .before .index .result ≡ start-of c .args .first .0 - 1
+here c = rw (c .before .before .leaves .ensures) at (c .before .index .ensures)
+
 -- what this turn reads, which is small
 spot : (c : tie.In-loop Inv-loop μ-loop) →
-    let start = c .before .before .before .before .before .before .before .before .args in
+    let start = start-of (c .before) .args in
     let k = c .before .before .index .result + (c .before .loop .j - 1) in
     (k < 64) × (getD (start .keep .now) k 0 ≤ limit) × (getD (start .go .now) k 0 ≤ limit)
     × (getD (start .diagonal .now) k 0 ≤ ceiling)
 spot c =
-    let start = c .before .before .before .before .before .before .before .before in
-    room-at _ _ _ _ _ _ (start .pre) _ (c .before .before .index .ensures) (c .before .loop .j - 1)
+    room-at _ _ _ _ _ _ (start-of (c .before) .pre) _ (here (c .before)) (c .before .loop .j - 1)
     (omega (arith, c .before .loop .inv .most, c .loop-test .taken))
 
-size : (c : tie.In-loop Inv-loop μ-loop) →
-    length (c .before .before .before .before .before .before .before .before .args .row .now) ≤ 64
-size c =
-    let room = c .before .before .before .before .before .before .before .before .pre in
-    omega (arith, room .first, room .last)
+-- a row has at most 64 cells
+size : (c : tie.In-loop Inv-loop μ-loop) → length (start-of (c .before) .args .row .now) ≤ 64
+size c = omega (arith, start-of (c .before) .pre .first, start-of (c .before) .pre .last)
 
 -- the place is one of 64
 add-k : tie.Need-add-k Inv-loop μ-loop
@@ -109,8 +116,8 @@ same-length c = c .before .loop .inv .long
 -- no cell is left
 returns : tie.Need-returns Inv-loop μ-loop
 returns c =
-    let start = c .before .before .before .before .before .before .before .before in
-    filled-end _ _ _ _ _ _ _ _ _ _ _ (start .pre .first) (c .before .before .index .ensures) refl
+    let start = start-of (c .before) in
+    filled-end _ _ _ _ _ _ _ _ _ _ _ (start .pre .first) (here (c .before)) refl
     (omega (arith, start .pre .first, start .pre .last)) (c .before .loop .inv) (omega arith)
 
 pub fill-row-spec : {M : Type 1} → statement M
@@ -119,6 +126,7 @@ fill-row-spec =
     (tie.spec
     Inv-loop
     μ-loop
+    leaves-requires
     index-requires
     loop-holds
     sub-j

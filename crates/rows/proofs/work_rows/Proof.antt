@@ -2,6 +2,7 @@
 -- Assumes nothing.
 use borrow.Author.Needs.{needs}
 use mathlib.Core.Path.{_≡_, refl, _∙_}
+use Prim.Native.Nat.{_-_}
 use native.Mathlib.Omega.{arith}
 use lib.ListN.{length}
 use Rattle.cells.specs.Given.{bookIn}
@@ -64,6 +65,9 @@ work-row-requires c κs =
       I .3,
     )
 
+leaves-requires : tie.Need-leaves-requires Inv-loop μ-loop
+leaves-requires c κs = search needs
+
 index-requires : tie.Need-index-requires Inv-loop μ-loop
 index-requires c κs = search needs
 
@@ -71,7 +75,7 @@ mul-diagonal : tie.Need-mul-diagonal Inv-loop μ-loop
 mul-diagonal c = search needs
 
 abbrev called-of : tie.After-index Inv-loop μ-loop → tie.After-work-row Inv-loop μ-loop
-called-of c = c .before .before .before .before .before .before
+called-of c = c .before .before .before .before .before .before .before
 
 abbrev turn-of : tie.After-work-row Inv-loop μ-loop → tie.In-loop Inv-loop μ-loop
 turn-of called = called .before .before .before .before .before .before .before
@@ -79,12 +83,16 @@ turn-of called = called .before .before .before .before .before .before .before
 abbrev start-of : tie.In-loop Inv-loop μ-loop → tie.Start Inv-loop μ-loop
 start-of turn = turn .before .before .before .before .before .before .before .before .before .before
 
--- a train of the line has its place on the diagonal
+-- the station that train i leaves stands where train i does
+here : (c : tie.After-index Inv-loop μ-loop) → c .index .result ≡ turn-of (called-of c) .before .loop .i - 1
+here c = rw (c .before .leaves .ensures) at (c .index .ensures)
+
+-- a station that a train of the line leaves has its place on the diagonal
 array-write-diagonal : tie.Need-array-write-diagonal Inv-loop μ-loop
 array-write-diagonal c =
     let turn = turn-of (called-of c) in
     let start = start-of turn .pre in
-    omega (arith, c .index .ensures, turn .before .loop .inv .0 .most, start .last, start .given .run .trains)
+    omega (arith, here c, turn .before .loop .inv .0 .most, start .last, start .given .run .trains)
 
 sub-i : tie.Need-sub-i Inv-loop μ-loop
 sub-i c = search needs
@@ -101,7 +109,7 @@ loop-again c =
     let I = turn .before .loop .inv in
     let kept = called .work-row .kept .1 in (
       worked-back _ _ _ _ _ _ _ _ (I .0) (start .pre .given .run .trains) (turn .loop-test .taken)
-          (start .pre .last) (called .work-row .ensures) _ (c .index .ensures),
+          (start .pre .last) (called .work-row .ensures) _ (here c),
       kept .0 ∙ I .1,
       kept .1 .0 ∙ I .2,
       kept .1 .1 .0 ∙ I .3,
@@ -130,6 +138,7 @@ work-rows-spec =
     slice-aggregate-work-row-4
     slice-aggregate-work-row-5
     work-row-requires
+    leaves-requires
     index-requires
     mul-diagonal
     array-write-diagonal

@@ -26,6 +26,9 @@ loop-holds c = (omega arith, refl, λ l a b. absurd (omega arith))
 slack-requires : tie.Need-slack-requires Inv-loop μ-loop
 slack-requires c κs = c .before .before .before .before .pre .1 _ (c .before .loop .inv .0) (c .loop-test .taken)
 
+leaves-requires : tie.Need-leaves-requires Inv-loop μ-loop
+leaves-requires c κs = search needs
+
 index-requires : tie.Need-index-requires Inv-loop μ-loop
 index-requires c κs = search needs
 
@@ -44,14 +47,14 @@ loop-less c = search needs
 -- one station more
 loop-again : tie.Need-loop-again Inv-loop μ-loop
 loop-again c =
-    let at-loop = c .before .before .before .loop in
+    let at-loop = c .before .before .before .before .loop in
     let I = at-loop .inv in
-    let few = c .before .before .before .before .before .before .pre .0 in (
+    let few = c .before .before .before .before .before .before .before .pre .0 in
+    let at = rw (c .before .leaves .ensures) at (c .index .ensures) in (
       omega (arith, I .0),
       simp length-set (I .1),
-      held-set (at-loop .list) (c .index .result) (at-loop .i) _ (c .index .ensures) (omega (arith, I .0)) _ 2
-          (at-loop .i + 1)
-          (omega arith) (omega (arith, I .1, c .index .ensures)) (c .before .slack .ensures)
+      held-set (at-loop .list) (c .index .result) (at-loop .i) _ at (omega (arith, I .0)) _ 2 (at-loop .i + 1)
+          (omega arith) (omega (arith, I .1, at)) (c .before .before .slack .ensures)
           (λ l a b n. I .2 l a (omega arith)),
     )
 
@@ -69,6 +72,7 @@ slacks-spec =
     μ-loop
     loop-holds
     slack-requires
+    leaves-requires
     index-requires
     mul-list
     array-write-list

@@ -30,23 +30,32 @@ cast-delays c =
     let given = c .before .before .before .before .before .before .pre .given in
     omega (arith, given .run .most 1 (omega arith) (given .some))
 
+index-requires : tie.Need-index-requires Inv-loop μ-loop
+index-requires c κs = search needs
+
+mul-delays : tie.Need-mul-delays Inv-loop μ-loop
+mul-delays c = search needs
+
 array-write-delays : tie.Need-array-write-delays Inv-loop μ-loop
 array-write-delays c = search needs
 
--- train 1 has decided and arrived
+-- train 1, whose place is the first, has decided and arrived
 loop-holds : tie.Need-loop-holds Inv-loop μ-loop
 loop-holds c =
-    let given = c .before .before .before .before .before .before .pre .given in
-    walk-start _ _ (c .arrives .result) (given .some) (c .arrives .ensures)
+    let arrived = c .before in
+    let given = arrived .before .before .before .before .before .before .pre .given in
+    rw (c .index .ensures) (walk-start _ _ (arrived .arrives .result) (given .some) (arrived .arrives .ensures))
+
+abbrev start-of : tie.In-loop Inv-loop μ-loop → tie.Start Inv-loop μ-loop
+start-of c = c .before .before .before .before .before .before .before .before .before
 
 -- the walk stands at station i
 decide-at-requires : tie.Need-decide-at-requires Inv-loop μ-loop
 decide-at-requires c κs =
-    let start = c .before .before .before .before .before .before .before .before in
-    walk-asks _ _ _ _ _ _ (start .pre) _ _ _ _ _ (c .before .loop .inv) (c .loop-test .taken)
+    walk-asks _ _ _ _ _ _ (start-of c .pre) _ _ _ _ _ (c .before .loop .inv) (c .loop-test .taken)
 
-index-requires : tie.Need-index-requires Inv-loop μ-loop
-index-requires c κs = search needs
+index-requires-2 : tie.Need-index-requires-2 Inv-loop μ-loop
+index-requires-2 c κs = search needs
 
 array-write-decisions : tie.Need-array-write-decisions Inv-loop μ-loop
 array-write-decisions c = search needs
@@ -56,11 +65,11 @@ cast-delays-2 : tie.Need-cast-delays-2 Inv-loop μ-loop
 cast-delays-2 c =
     let decided = c .before .before in
     let turn = decided .before in
-    let start = turn .before .before .before .before .before .before .before .before in
-    omega (arith, walk-late _ _ _ _ _ _ (start .pre) _ _ _ _ _ (turn .loop-test .taken) (decided .decide-at .ensures))
+    let given = start-of turn .pre in
+    omega (arith, walk-late _ _ _ _ _ _ given _ _ _ _ _ (turn .loop-test .taken) (decided .decide-at .ensures))
 
-mul-delays : tie.Need-mul-delays Inv-loop μ-loop
-mul-delays c = search needs
+mul-delays-2 : tie.Need-mul-delays-2 Inv-loop μ-loop
+mul-delays-2 c = search needs
 
 array-write-delays-2 : tie.Need-array-write-delays-2 Inv-loop μ-loop
 array-write-delays-2 c = search needs
@@ -76,9 +85,8 @@ loop-again : tie.Need-loop-again Inv-loop μ-loop
 loop-again c =
     let decided = c .before .before in
     let turn = decided .before in
-    let start = turn .before .before .before .before .before .before .before .before in
-    walk-next _ _ _ _ _ _ _ (turn .before .loop .inv) _ _ _ (decided .decide-at .ensures) _ (c .before .index .ensures)
-    (turn .loop-test .taken) (omega (arith, start .pre .given .run .trains))
+    walk-next _ _ _ _ _ _ _ (turn .before .loop .inv) _ _ _ (decided .decide-at .ensures) _ (c .before .index2 .ensures)
+    (turn .loop-test .taken) (omega (arith, start-of turn .pre .given .run .trains))
 
 -- no train is left
 returns : tie.Need-returns Inv-loop μ-loop
@@ -92,13 +100,15 @@ follow-spec =
     μ-loop
     arrives-requires
     cast-delays
+    index-requires
+    mul-delays
     array-write-delays
     loop-holds
     decide-at-requires
-    index-requires
+    index-requires-2
     array-write-decisions
     cast-delays-2
-    mul-delays
+    mul-delays-2
     array-write-delays-2
     add-i
     loop-less
