@@ -111,7 +111,7 @@ boundary: tools archive
 	@mkdir -p $(BUILT)
 	@$(CC_X86) -std=c11 -O2 $(WARN) -Iinclude tests/boundary/*.c $(ARCHIVE) -o $(BUILT)/boundary
 	@$(EMULATOR) $(BUILT)/boundary --calls $(CALLS)
-	@$(EMULATOR) $(BUILT)/boundary --calls $(CALLS) --wrong
+	@$(EMULATOR) $(BUILT)/boundary --wrong
 
 # The same tests on a build that stops at the first access outside its memory, but does not look for leaks: no memory
 # is taken, and a signal that comes while it looks makes it hang. Then wrong displays.

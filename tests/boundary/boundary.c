@@ -15,20 +15,20 @@
 #include <sys/wait.h>
 #include <unistd.h>
 
-#define ENOUGH_CALLS 20000           /* after which every number must have been met, */
-#define ENOUGH_FOR_TRAINS 100000     /* and after which every m must have been accepted */
+#define CALLS 200000
+#define CALLS_FOR_A_MISTAKE 10000    /* of 1,000 seeds none took 500 */
+#define ENOUGH_CALLS 20000           /* for every number and every m to be met, by any seed */
 
 struct options {
-    uint64_t seed, calls, seconds;
+    uint64_t seed, calls;            /* 0 calls: the default */
     bool wrong, stack;
 };
 
 static const char usage[] =
-    "usage: boundary [--seed N] [--calls N] [--seconds N] [--wrong] [--stack] [--help]\n"
+    "usage: boundary [--seed N] [--calls N] [--wrong] [--stack] [--help]\n"
     "  --seed N      where the numbers by chance begin (default 20041)\n"
-    "  --calls N     calls to make (default 200000); from 20000 on every number has to be met,\n"
-    "                from 100000 on every m has to be accepted too\n"
-    "  --seconds N   stop after that time (default 240); fails under a tenth of the calls\n"
+    "  --calls N     calls to make, to the end of a run (default 200000, or 10000 for each\n"
+    "                mistake); from 20000 on every number has to be met and every m accepted\n"
     "  --wrong       let the paper side make each of its mistakes, which must be caught\n"
     "  --stack       print the bytes of stack of each operation and nothing else\n";
 
@@ -54,20 +54,6 @@ static const char *const rows[PAPER_OUTCOMES] = {
     [PAPER_DELAY_REPORTED] = " 6 reported delay",
     [PAPER_CELL] = "12 cell",
 };
-
-static bool can_give(enum operation operation, enum paper_outcome outcome)
-{
-    switch (outcome) {
-    case PAPER_LENGTH_LISTS: case PAPER_DRIVING:
-        return operation == WRITE;
-    case PAPER_SHORT_START: case PAPER_SHORT_FOR_M: case PAPER_LONG: case PAPER_FILLING:
-        return operation != WRITE;
-    case PAPER_NO_SUCH_TRAIN: case PAPER_DELAY_REPORTED: case PAPER_CELL:
-        return operation == REPORT;
-    default:
-        return true;
-    }
-}
 
 static void print_count(enum operation operation, enum paper_outcome outcome)
 {
@@ -117,32 +103,29 @@ static bool all_trains_met(void)
 
 /* ---- the three things to do ---- */
 
-static int test_right(const struct options *options)
+static int test_right(void)
 {
     fixed_cases();
     printf("cases of the paper: %" PRIu64 " calls as printed there\n", tally.calls);
-    bool in_time = runs_by_chance((double)options->seconds);
+    runs();
     print_table();
-    bool enough = in_time || tally.calls >= options->calls / 10;
-    if (!in_time)
-        printf("stopped after %" PRIu64 " seconds%s\n", options->seconds,
-               enough ? "" : ": TOO FEW CALLS");
-    bool met = options->calls < ENOUGH_CALLS || all_met();
-    if (options->calls >= ENOUGH_FOR_TRAINS)
+    bool met = true;
+    if (tally.most_calls >= ENOUGH_CALLS) {
+        met &= all_met();
         met &= all_trains_met();
+    }
     bool stack = stack_is_enough();
     if (!stack)
         printf("TOO MUCH STACK\n");
-    bool passed = enough && met && stack;
+    bool passed = met && stack;
     printf("%s: %" PRIu64 " calls, seed %" PRIu64 "\n", passed ? "passed" : "FAILED", tally.calls,
-           options->seed);
+           tally.seed);
     return passed ? 0 : 1;
 }
 
 /* Tries one mistake in a process of its own, since a difference ends the program. The cases of the
- * paper are left out, so that it is the calls by chance that have to catch it. All mistakes share
- * the seconds. */
-static bool caught(enum paper_mistake mistake, const struct options *options)
+ * paper are left out, so that it is the runs that have to catch it. */
+static bool caught(enum paper_mistake mistake)
 {
     int status = 0;
     printf("%-42s ", paper_mistakes[mistake]);
@@ -151,7 +134,7 @@ static bool caught(enum paper_mistake mistake, const struct options *options)
     if (child == 0) {
         paper_wrong = mistake;
         tally.brief = true;
-        runs_by_chance((double)options->seconds / PAPER_MISTAKES);
+        runs();
         printf("NOT CAUGHT in %" PRIu64 " calls\n", tally.calls);
         exit(0);
     }
@@ -162,11 +145,11 @@ static bool caught(enum paper_mistake mistake, const struct options *options)
     return WIFEXITED(status) && WEXITSTATUS(status) == CAUGHT;
 }
 
-static int test_wrong(const struct options *options)
+static int test_wrong(void)
 {
     int missed = 0;
     for (enum paper_mistake mistake = PAPER_RIGHT + 1; mistake < PAPER_MISTAKES; mistake++)
-        missed += !caught(mistake, options);
+        missed += !caught(mistake);
     printf("%s: %d of %d mistakes caught\n", missed == 0 ? "passed" : "FAILED",
            PAPER_MISTAKES - 1 - missed, PAPER_MISTAKES - 1);
     return missed == 0 ? 0 : 1;
@@ -198,8 +181,6 @@ static bool take_options(char **arguments, struct options *options)
             number = &options->seed;
         else if (strcmp(*a, "--calls") == 0)
             number = &options->calls;
-        else if (strcmp(*a, "--seconds") == 0)
-            number = &options->seconds;
         else if (strcmp(*a, "--wrong") == 0)
             options->wrong = true;
         else if (strcmp(*a, "--stack") == 0)
@@ -214,7 +195,7 @@ static bool take_options(char **arguments, struct options *options)
 
 int main(int argc, char **argv)
 {
-    struct options options = {.seed = 20041, .calls = 200000, .seconds = 240};
+    struct options options = {.seed = 20041};
     if (argc == 2 && strcmp(argv[1], "--help") == 0) {
         fputs(usage, stdout);
         return 0;
@@ -226,8 +207,10 @@ int main(int argc, char **argv)
         return stack_is_enough() ? 0 : 1;
     printf("seed %" PRIu64 "\n", options.seed);
     tally.seed = options.seed;
-    tally.most_calls = options.calls;
+    tally.most_calls = options.wrong ? CALLS_FOR_A_MISTAKE : CALLS;
+    if (options.calls > 0)
+        tally.most_calls = options.calls;
     chance_seed(options.seed);
     calls_begin();
-    return options.wrong ? test_wrong(&options) : test_right(&options);
+    return options.wrong ? test_wrong() : test_right();
 }

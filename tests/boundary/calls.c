@@ -62,6 +62,20 @@ bool has_list(enum operation operation, enum list list)
     }
 }
 
+bool can_give(enum operation operation, enum paper_outcome outcome)
+{
+    switch (outcome) {
+    case PAPER_LENGTH_LISTS: case PAPER_DRIVING:
+        return operation == WRITE;
+    case PAPER_SHORT_START: case PAPER_SHORT_FOR_M: case PAPER_LONG: case PAPER_FILLING:
+        return operation != WRITE;
+    case PAPER_NO_SUCH_TRAIN: case PAPER_DELAY_REPORTED: case PAPER_CELL:
+        return operation == REPORT;
+    default:
+        return true;
+    }
+}
+
 /* Lists that the header lends as const. */
 static bool is_const(enum operation operation, enum list list)
 {
@@ -101,6 +115,46 @@ struct call right_write(uint32_t m, uint32_t period)
     call.count[DEPARTURES] = call.count[DRIVING] = call.count[DELAYS] = m;
     call.count[PASSENGERS] = (size_t)m * (m + 1) / 2;
     return call;
+}
+
+/* ---- what the lists hold before a call ---- */
+
+static void scribble(uint8_t *at, size_t bytes)
+{
+    for (; bytes >= 8; bytes -= 8, at += 8) {
+        uint64_t number = chance();
+        memcpy(at, &number, 8);
+    }
+}
+
+void scribble_outputs(enum operation operation)
+{
+    for (enum list l = 0; l < LISTS; l++) {
+        bool read_too = operation == REPORT && (l == SHEET || l == CELLS);
+        if (has_list(operation, l) && !is_const(operation, l) && !read_too)
+            scribble(shapes[l].on_desk, shapes[l].width * shapes[l].room);
+    }
+}
+
+static void lay_lists(const struct paper_line *line)
+{
+    size_t field = 0;
+    for (uint32_t i = 1; i <= line->m; i++) {
+        desk.departures[i - 1] = line->departure[i];
+        desk.driving[i - 1] = line->driving[i];
+        desk.delays[i - 1] = line->source[i];
+        for (uint32_t j = i + 1; j <= line->m + 1; j++)
+            desk.passengers[field++] = line->passengers[i][j];
+    }
+}
+
+struct call lay(enum operation operation, const struct paper_line *line)
+{
+    scribble_outputs(operation);
+    if (operation != WRITE)
+        return right_call(operation, paper_pack(line, desk.sheet));
+    lay_lists(line);
+    return right_write(line->m, line->period);
 }
 
 /* ---- telling ---- */

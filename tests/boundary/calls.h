@@ -57,6 +57,9 @@ const char *list_name(enum list list);
 bool has_list(enum operation operation, enum list list);
 size_t list_room(enum list list);
 
+/* Whether a row of 01's table is among the operation's. */
+bool can_give(enum operation operation, enum paper_outcome outcome);
+
 /* Makes the pages of all lists and the handlers of signals. */
 void calls_begin(void);
 
@@ -65,6 +68,14 @@ struct call right_call(enum operation operation, size_t sheet_count);
 
 /* A write of m trains, its lists as long as m demands. */
 struct call right_write(uint32_t m, uint32_t period);
+
+/* Noise into the lists that the operation writes and does not read, so that nothing on the desk
+ * could be thought to have been written by the call. */
+void scribble_outputs(enum operation operation);
+
+/* Lays a line on the desk for the operation, as a sheet or as write's lists, beside noise. The call
+ * has the right lengths; a report's train, delay and cells are still to be laid. */
+struct call lay(enum operation operation, const struct paper_line *line);
 
 /* Makes the call on both sides from what the desk holds, compares all that it returns and stores,
  * and leaves the result on the desk. Ends the program at a difference. */

@@ -1,78 +1,18 @@
-/* The runs: reads written back, writes, plans, reports in a row and reports on any cells. */
-#define _GNU_SOURCE
+/* The runs: reads written back, writes, plans, reports in a row and reports on any cells, by chance;
+ * faults and good lines on purpose. */
 #include "runs.h"
 
 #include "calls.h"
 #include "chance.h"
+#include "faults.h"
 
 #include <string.h>
-#include <time.h>
-
-#define LIMIT 1916928000000u
-
-static bool more_calls(void)
-{
-    return tally.calls < tally.most_calls;
-}
-
-/* ---- what the lists hold before a call, and wrong lengths ---- */
-
-static void scribble(void *list, size_t bytes)
-{
-    uint8_t *at = list;
-    for (; bytes >= 8; bytes -= 8, at += 8) {
-        uint64_t number = chance();
-        memcpy(at, &number, 8);
-    }
-}
-
-/* Leaves nothing on the desk that a call could be thought to have written. */
-static void scribble_outputs(void)
-{
-    scribble(desk.decisions, sizeof desk.decisions);
-    scribble(desk.delays, sizeof desk.delays);
-    scribble(desk.answer, sizeof desk.answer);
-}
-
-static size_t wrong_length(enum list l, size_t right)
-{
-    size_t room = list_room(l), length = right;
-    while (length == right || length > room)
-        switch (below(4)) {
-        case 0: length = 0; break;
-        case 1: length = right - 1; break;
-        case 2: length = right + 1; break;
-        default: length = below((uint32_t)room + 1);
-        }
-    return length;
-}
-
-/* A sheet that is read may have any length; the answer's list is spoiled apart. */
-static bool has_stated_length(enum operation operation, enum list l)
-{
-    return l != ANSWER && has_list(operation, l) && (l != SHEET || operation == WRITE);
-}
-
-static void spoil_one_length(struct call *call)
-{
-    enum list l;
-    do
-        l = below(LISTS);
-    while (!has_stated_length(call->operation, l));
-    call->count[l] = wrong_length(l, call->count[l]);
-}
 
 static void spoil_lengths(struct call *call)
 {
     for (uint32_t n = one_in(2) ? 1 : between(2, 4); n > 0; n--)
-        spoil_one_length(call);
-}
-
-static void spoil_answer(struct call *call)
-{
-    size_t right = call->count[ANSWER];
-    while (call->count[ANSWER] == right)
-        call->count[ANSWER] = below(9);
+        spoil(call, call->operation == WRITE && !one_in(5) ? PAPER_LENGTH_LISTS
+                                                           : PAPER_LENGTH_BUFFER);
 }
 
 static void spoil_at_times(struct call *call)
@@ -80,7 +20,7 @@ static void spoil_at_times(struct call *call)
     if (one_in(16))
         spoil_lengths(call);
     if (one_in(40))
-        spoil_answer(call);
+        spoil(call, PAPER_LENGTH_ANSWER);
 }
 
 /* ---- read and write ---- */
@@ -91,8 +31,7 @@ static void write_back(size_t sheet_count)
     static uint8_t sheet[SHEET_ROOM];
     struct call call = right_write((uint32_t)desk.answer[2], (uint32_t)desk.answer[3]);
     memcpy(sheet, desk.sheet, sheet_count);
-    scribble(desk.sheet, sizeof desk.sheet);
-    scribble(desk.answer, sizeof desk.answer);
+    scribble_outputs(WRITE);
     make_call(&call);
     if (desk.answer[2] != sheet_count)
         differ("length of the sheet written back", 0, sheet_count, desk.answer[2]);
@@ -101,80 +40,18 @@ static void write_back(size_t sheet_count)
             differ("sheet written back", i, sheet[i], desk.sheet[i]);
 }
 
+static void read_and_write_back(struct call read)
+{
+    if (make_call(&read).outcome == PAPER_ACCEPTED)
+        write_back(read.count[SHEET]);
+}
+
 static void run_read(void)
 {
     struct call call = right_call(READ, draw_sheet(desk.sheet));
-    scribble(desk.departures, sizeof desk.departures);
-    scribble(desk.driving, sizeof desk.driving);
-    scribble(desk.passengers, sizeof desk.passengers);
-    scribble_outputs();
+    scribble_outputs(READ);
     spoil_at_times(&call);
-    if (make_call(&call).outcome == PAPER_ACCEPTED && more_calls())
-        write_back(call.count[SHEET]);
-}
-
-static void lists_from_line(const struct paper_line *line)
-{
-    size_t field = 0;
-    for (uint32_t i = 1; i <= line->m; i++) {
-        desk.departures[i - 1] = line->departure[i];
-        desk.driving[i - 1] = line->driving[i];
-        desk.delays[i - 1] = line->source[i];
-        for (uint32_t j = i + 1; j <= line->m + 1; j++)
-            desk.passengers[field++] = line->passengers[i][j];
-    }
-}
-
-/* A number past most, at times one that would pass if cut to the field's width. */
-static uint32_t draw_over(uint32_t most, unsigned width)
-{
-    uint32_t passing = below(most + 1);
-    switch (below(5)) {
-    case 0: return most + 1;
-    case 1: return (1u << width) + passing;
-    case 2: return (1u << 16) + passing;
-    case 3: return (1u << 31) + passing;
-    default: return any_32();
-    }
-}
-
-static void damage_lists(uint32_t m)
-{
-    for (uint32_t n = one_in(2) ? 1 : between(2, 5); n > 0; n--) {
-        uint32_t i = below(m), field = below(m * (m + 1) / 2);
-        switch (below(4)) {
-        case 0: desk.departures[i] = draw_over(2879, 12); break;
-        case 1: desk.driving[i] = draw_over(1023, 10); break;
-        case 2: desk.delays[i] = draw_over(1440, 11); break;
-        default: desk.passengers[field] = draw_over(10000, 14);
-        }
-    }
-}
-
-static uint32_t draw_wrong_m(uint32_t m)
-{
-    switch (below(5)) {
-    case 0: return 0;
-    case 1: return between(65, 77);
-    case 2: return m + 128;
-    case 3: return m + (1u << (one_in(2) ? 8 : 16));
-    default: return any_32();
-    }
-}
-
-/* The lists of a write may or may not fit the m that it is told. */
-static struct call draw_write(uint32_t m, uint32_t period)
-{
-    struct call call = right_write(m, period);
-    if (one_in(12)) {
-        uint32_t other = draw_wrong_m(m);
-        if (other <= 77 && one_in(2))
-            call = right_write(other, period);
-        call.first = other;
-    }
-    if (one_in(12))
-        call.second = one_in(2) ? draw_over(1440, 11) : 0;
-    return call;
+    read_and_write_back(call);
 }
 
 static void run_write(void)
@@ -182,18 +59,17 @@ static void run_write(void)
     struct paper_line line;
     draw_line(&line, draw_trains());
     if (one_in(4))
-        damage_line(&line);
-    scribble(desk.sheet, sizeof desk.sheet);
-    scribble(desk.answer, sizeof desk.answer);
-    lists_from_line(&line);
+        damage_line(&line, false);
     if (one_in(3))
-        damage_lists(line.m);
-    struct call call = draw_write(line.m, line.period);
+        damage_line(&line, true);
+    struct call call = lay(WRITE, &line);
+    if (one_in(12))
+        spoil(&call, PAPER_TRAIN_COUNT);
     call.one_list = one_in(24);
     if (!call.one_list && one_in(6))
         spoil_lengths(&call);
     if (one_in(40))
-        spoil_answer(&call);
+        spoil(&call, PAPER_LENGTH_ANSWER);
     make_call(&call);
 }
 
@@ -202,29 +78,21 @@ static void run_write(void)
 static void run_plan(void)
 {
     struct call call = right_call(PLAN, draw_sheet(desk.sheet));
-    scribble(desk.cells, sizeof desk.cells);
-    scribble_outputs();
+    scribble_outputs(PLAN);
     spoil_at_times(&call);
     make_call(&call);
-}
-
-static uint32_t draw_train(uint32_t m)
-{
-    uint32_t others[6] = {0, m + 1, UINT32_MAX, m + 256, m + 65536, any_32()};
-    return one_in(16) ? others[below(6)] : one_in(6) ? m : between(1, m);
-}
-
-static uint32_t draw_report_delay(void)
-{
-    return one_in(16) ? draw_over(1440, 11) : draw_delay();
 }
 
 static struct call draw_report(uint32_t m, size_t sheet_count)
 {
     struct call call = right_call(REPORT, sheet_count);
-    call.first = draw_train(m);
-    call.second = draw_report_delay();
-    scribble_outputs();
+    call.first = one_in(6) ? m : between(1, m);
+    call.second = draw_delay();
+    if (one_in(16))
+        spoil(&call, PAPER_NO_SUCH_TRAIN);
+    if (one_in(16))
+        spoil(&call, PAPER_DELAY_REPORTED);
+    scribble_outputs(REPORT);
     return call;
 }
 
@@ -270,23 +138,20 @@ static void report_once(uint32_t m, size_t sheet_count)
         check_fresh(sheet_count);
 }
 
-/* Lays the sheet of a good line on the desk, noise in the other lists; the call plans it. */
-static struct call lay_line(uint32_t m)
+static struct call lay_good_line(enum operation operation, uint32_t m)
 {
     struct paper_line line;
     draw_line(&line, m);
-    scribble(desk.cells, sizeof desk.cells);
-    scribble_outputs();
-    return right_call(PLAN, paper_pack(&line, desk.sheet));
+    return lay(operation, &line);
 }
 
 /* A plan, then reports in a row, some of them refused. */
 static void run_reports(void)
 {
     uint32_t m = draw_trains();
-    struct call plan = lay_line(m);
+    struct call plan = lay_good_line(PLAN, m);
     make_call(&plan);
-    for (uint32_t n = between(1, 12); n > 0 && more_calls(); n--)
+    for (uint32_t n = between(1, 12); n > 0; n--)
         if (one_in(16))
             report_on_damage(m, plan.count[SHEET]);
         else
@@ -321,11 +186,11 @@ static void draw_cells(uint32_t m)
 static void run_any_cells(void)
 {
     uint32_t m = draw_trains();
-    struct call plan = lay_line(m);
+    struct call plan = lay_good_line(PLAN, m);
     if (one_in(2))
         make_call(&plan);
     draw_cells(m);
-    for (uint32_t n = between(1, 3); n > 0 && more_calls(); n--) {
+    for (uint32_t n = between(1, 3); n > 0; n--) {
         struct call call = draw_report(m, plan.count[SHEET]);
         spoil_at_times(&call);
         make_call(&call);
@@ -341,22 +206,36 @@ static void run_any_sheet(void)
     make_call(&call);
 }
 
-static double now(void)
+/* ---- on purpose ---- */
+
+/* Good lines of m trains: one is planned and reported on, another is reported on the cells that the
+ * first one left. */
+static void run_good(uint32_t m)
 {
-    struct timespec t;
-    clock_gettime(CLOCK_MONOTONIC, &t);
-    return (double)t.tv_sec + 1e-9 * (double)t.tv_nsec;
+    struct call plan = lay_good_line(PLAN, m);
+    make_call(&plan);
+    report_once(m, plan.count[SHEET]);
+    struct call other = lay_good_line(REPORT, m);
+    other.first = one_in(2) ? 1 : between(1, m);
+    other.second = draw_delay();
+    make_call(&other);
 }
 
-bool runs_by_chance(double seconds)
+/* On purpose and by chance in turn. Every m comes round, the longest line first; so in 512 turns,
+ * and those are under 20,000 calls, every m is accepted by every operation. */
+void runs(void)
 {
-    static void (*const runs[])(void) = {run_read, run_read, run_write, run_write, run_plan,
-                                         run_reports, run_any_cells, run_any_sheet};
-    double end = now() + seconds;
-    while (more_calls()) {
-        if (now() > end)
-            return false;
-        runs[below(sizeof runs / sizeof *runs)]();
+    static void (*const by_chance[])(void) = {run_read, run_read, run_write, run_write, run_plan,
+                                              run_reports, run_any_cells, run_any_sheet};
+    for (uint32_t n = 0; tally.calls < tally.most_calls; n++) {
+        faults_on_purpose(n);
+        run_good(between(2, 8));
+        if (n % 8 == 0) {
+            uint32_t m = OBLACHURA_TRAINS - n / 8 % OBLACHURA_TRAINS;
+            read_and_write_back(lay_good_line(READ, m));
+            run_good(m);
+        }
+        for (int i = 0; i < 2; i++)
+            by_chance[below(sizeof by_chance / sizeof *by_chance)]();
     }
-    return true;
 }

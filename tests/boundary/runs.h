@@ -1,10 +1,8 @@
-/* The runs: calls by chance, alone and in a row, until their number or the time is up. */
+/* The runs: calls on purpose and by chance in turn, until their number is reached. */
 #ifndef RUNS_H
 #define RUNS_H
 
-#include <stdbool.h>
-
-/* Makes calls until tally.most_calls are made; false if the seconds were over before. */
-bool runs_by_chance(double seconds);
+/* Makes calls until tally.most_calls are made; the run that reaches them is made to its end. */
+void runs(void);
 
 #endif

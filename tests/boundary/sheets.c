@@ -3,10 +3,10 @@
 
 #include "chance.h"
 
-#include <stdbool.h>
 #include <string.h>
 
-enum flavour { FREE, LEAST, MOST, EDGES, NO_SLACK, TINY, SMALL_PERIOD, LARGE_PERIOD, DAILY,
+/* JUST has slacks at which a late feeder is just in time, or just not. */
+enum flavour { FREE, LEAST, MOST, EDGES, NO_SLACK, TINY, SMALL_PERIOD, LARGE_PERIOD, DAILY, JUST,
                FLAVOURS };
 
 static uint32_t smaller(uint32_t a, uint32_t b)
@@ -45,7 +45,7 @@ static uint32_t draw_number(enum flavour flavour, uint32_t most, uint32_t daily)
     case MOST: return most;
     case EDGES: return edge(0, most);
     case TINY: return below(4);
-    case SMALL_PERIOD: case LARGE_PERIOD: case DAILY: return between(0, daily);
+    case SMALL_PERIOD: case LARGE_PERIOD: case DAILY: case JUST: return between(0, daily);
     default: return between(0, most);
     }
 }
@@ -59,7 +59,7 @@ static uint32_t draw_period(enum flavour flavour)
     case TINY: return between(1, 5);
     case SMALL_PERIOD: return between(1, 6);
     case LARGE_PERIOD: return between(200, 1440);
-    case DAILY: return between(5, 60);
+    case DAILY: case JUST: return between(5, 60);
     default: return between(1, 1440);
     }
 }
@@ -77,22 +77,35 @@ static uint32_t draw_part(enum flavour flavour, uint32_t left, uint32_t trains, 
     return flavour == MOST || (flavour == EDGES && one_in(2)) ? bound : between(0, bound);
 }
 
+/* The slack of a stop whose feeder is so late if every transfer before was kept. */
+static uint32_t draw_slack(enum flavour flavour, uint32_t left, uint32_t trains, uint32_t late)
+{
+    if (flavour == NO_SLACK || flavour == MOST || one_in(4))
+        return 0;
+    if (flavour == JUST)
+        return smaller(left, between(late > 0 ? late - 1 : 0, late + 1));
+    return draw_part(flavour, left, trains, 2879);
+}
+
 static void draw_times(struct paper_line *line, enum flavour flavour)
 {
-    uint32_t at = draw_part(flavour, 2879, line->m, 2879);
+    uint32_t at = draw_part(flavour, 2879, line->m, 2879), late = 0;
     if (flavour == MOST && one_in(2))
         at = 2879;
-    for (uint32_t i = 1; i <= line->m; i++) {
+    for (uint32_t i = 1; i < line->m; i++) {
         uint32_t after = line->m - i;
-        bool no_slack = flavour == NO_SLACK || flavour == MOST || one_in(4);
         line->departure[i] = at;
-        line->driving[i] = after == 0 ? draw_number(flavour, 1023, 40)
-                                      : draw_part(flavour, 2879 - at, after, 1023);
-        at += line->driving[i];
-        if (after > 0 && !no_slack)
-            at += draw_part(flavour, 2879 - at, after, 2879);
+        line->driving[i] = draw_part(flavour, 2879 - at, after, 1023);
         line->source[i] = draw_number(flavour, 1440, 30);
+        at += line->driving[i];
+        late += line->source[i];
+        uint32_t slack = draw_slack(flavour, 2879 - at, after, late);
+        at += slack;
+        late -= smaller(slack, late);
     }
+    line->departure[line->m] = at;
+    line->driving[line->m] = draw_number(flavour, 1023, 40);
+    line->source[line->m] = draw_number(flavour, 1440, 30);
 }
 
 void draw_line(struct paper_line *line, uint32_t m)
@@ -107,34 +120,68 @@ void draw_line(struct paper_line *line, uint32_t m)
             line->passengers[i][j] = draw_number(flavour, 10000, 25);
 }
 
-/* Makes train i, from 2, depart before its feeder arrives, if its numbers allow that. */
+uint32_t draw_over(uint32_t most, unsigned width)
+{
+    uint32_t passing = below(most + 1), number;
+    switch (below(5)) {
+    case 0: return most + 1;
+    case 1: return (1u << width) + passing;
+    case 2: return (1u << 16) + passing;
+    case 3: return (1u << 31) + passing;
+    }
+    do
+        number = any_32();
+    while (number <= most);
+    return number;
+}
+
+/* A number past most that a field of the width can hold, or any for a list. */
+static uint32_t too_much(uint32_t most, unsigned width, bool for_lists)
+{
+    if (for_lists)
+        return draw_over(most, width);
+    return one_in(2) ? edge(most + 1, (1u << width) - 1) : between(most + 1, (1u << width) - 1);
+}
+
+/* Makes train i, from 2, depart before its feeder arrives: the one earlier or the other later. */
 static void damage_slack(struct paper_line *line, uint32_t i)
 {
     uint32_t reached = line->departure[i - 1] + line->driving[i - 1];
-    if (reached > 0 && reached <= 2880 && one_in(2))
-        line->departure[i] = one_in(2) ? reached - 1 : between(0, reached - 1);
-    else
-        line->driving[i - 1] = one_in(2) ? 1023 : smaller(1023, line->driving[i - 1] + below(40));
+    if (reached > 0 && line->departure[i] <= 2879 && one_in(2)) {
+        line->departure[i] = smaller(one_in(2) ? reached - 1 : below(reached), 2879);
+        return;
+    }
+    line->departure[i - 1] = 2879;
+    line->driving[i - 1] = 1023;
 }
 
-static void damage_one(struct paper_line *line)
+void damage_number(struct paper_line *line, enum paper_outcome row, uint32_t i, bool for_lists)
 {
-    uint32_t i = between(1, line->m), j = between(i + 1, line->m + 1);
-    switch (below(6)) {
-    case 0: line->departure[i] = one_in(2) ? edge(2880, 4095) : between(2880, 4095); break;
-    case 1: line->source[i] = one_in(2) ? edge(1441, 2047) : between(1441, 2047); break;
-    case 2: line->period = one_in(3) ? 0 : one_in(2) ? 1441 : between(1441, 2047); break;
-    case 3: line->passengers[i][j] = one_in(2) ? 10001 : between(10001, 16383); break;
-    default:
-        if (i >= 2)
-            damage_slack(line, i);
+    switch (row) {
+    case PAPER_PERIOD: line->period = one_in(3) ? 0 : too_much(1440, 11, for_lists); break;
+    case PAPER_DEPARTURE: line->departure[i] = too_much(2879, 12, for_lists); break;
+    case PAPER_DRIVING: line->driving[i] = too_much(1023, 10, for_lists); break;
+    case PAPER_DELAY_SHEET: line->source[i] = too_much(1440, 11, for_lists); break;
+    case PAPER_SLACK: damage_slack(line, i); break;
+    case PAPER_PASSENGERS: {
+        uint32_t j = between(i + 1, line->m + 1);
+        line->passengers[i][j] = too_much(10000, 14, for_lists);
+        break;
+    }
+    default: break;
     }
 }
 
-void damage_line(struct paper_line *line)
+void damage_line(struct paper_line *line, bool for_lists)
 {
-    for (uint32_t n = one_in(2) ? 1 : between(2, 5); n > 0; n--)
-        damage_one(line);
+    static const enum paper_outcome rows[6] = {PAPER_PERIOD, PAPER_DEPARTURE, PAPER_DELAY_SHEET,
+                                               PAPER_SLACK, PAPER_PASSENGERS, PAPER_DRIVING};
+    for (uint32_t n = one_in(2) ? 1 : between(2, 5); n > 0; n--) {
+        uint32_t i = between(1, line->m);
+        enum paper_outcome row = rows[below(for_lists ? 6 : 5)];
+        if (row != PAPER_SLACK || i >= 2)
+            damage_number(line, row, i, for_lists);
+    }
 }
 
 static void draw_bytes(uint8_t *bytes, size_t from, size_t to)
@@ -143,52 +190,72 @@ static void draw_bytes(uint8_t *bytes, size_t from, size_t to)
         bytes[i] = (uint8_t)chance();
 }
 
-static size_t cut_or_stretch(uint8_t *sheet, size_t count)
+static size_t stretch(uint8_t *sheet, size_t count)
 {
-    size_t other = count - 1;
-    switch (below(6)) {
-    case 0: other = below((uint32_t)count); break;
-    case 1: other = below(4); break;
-    case 2: other = count + 1; break;
-    case 3: other = count + 1 + below(64); break;
-    case 4: other = between((uint32_t)count + 1, SHEET_ROOM); break;
+    size_t longer = count + 1;
+    switch (below(3)) {
+    case 0: longer += below(64); break;
+    case 1: longer = between((uint32_t)count + 1, SHEET_ROOM); break;
     }
-    if (one_in(2) && other > count)
-        memset(sheet + count, 0, other - count);
-    else if (other > count)
-        draw_bytes(sheet, count, other);
-    return other;
+    if (one_in(2))
+        memset(sheet + count, 0, longer - count);
+    else
+        draw_bytes(sheet, count, longer);
+    return longer;
 }
 
 /* Sets at least one bit behind the last field: there are 2, 6 or 7 of them. */
-static void set_filling(uint8_t *sheet, size_t count)
+static void set_filling(uint8_t *sheet, size_t m)
 {
-    size_t m = sheet[0] >> 1;
-    unsigned filling = (unsigned)(8 * count - (7 * m * m + 40 * m + 18));
-    if (count == (7 * m * m + 40 * m + 18 + 7) / 8)
-        sheet[count - 1] |= (uint8_t)(one_in(2) ? 1u << below(filling) : (1u << filling) - 1);
+    size_t bits = 7 * m * m + 40 * m + 18;
+    unsigned filling = (unsigned)(8 * paper_length((uint32_t)m) - bits);
+    sheet[bits / 8] |= (uint8_t)(one_in(2) ? 1u << below(filling) : (1u << filling) - 1);
+}
+
+size_t damage_sheet(uint8_t *sheet, size_t count, enum paper_outcome row)
+{
+    uint32_t m = sheet[0] >> 1, right = (uint32_t)paper_length(m);
+    size_t place = 0;
+    switch (row) {
+    case PAPER_SHORT_START:
+        return below(3);
+    case PAPER_TRAIN_COUNT:
+        paper_put(sheet, &place, 7, one_in(3) ? 0 : one_in(2) ? edge(65, 127) : between(65, 127));
+        return count;
+    case PAPER_SHORT_FOR_M:
+        return one_in(2) ? right - 1 : between(3, right - 1);
+    case PAPER_LONG:
+        return stretch(sheet, right);
+    case PAPER_FILLING:
+        set_filling(sheet, m);
+        return count;
+    default:
+        return count;
+    }
+}
+
+static void flip_bits(uint8_t *sheet, size_t count)
+{
+    for (uint32_t n = between(1, 4); n > 0; n--) {
+        uint32_t bit = below(8 * (uint32_t)count);
+        sheet[bit / 8] ^= (uint8_t)(1u << bit % 8);
+    }
 }
 
 size_t damage_bytes(uint8_t *sheet, size_t count)
 {
-    static const uint32_t wrong_m[4] = {0, 65, 127, 66};
+    static const enum paper_outcome rows[5] = {PAPER_SHORT_START, PAPER_TRAIN_COUNT,
+                                               PAPER_SHORT_FOR_M, PAPER_LONG, PAPER_FILLING};
     size_t place = 0;
-    switch (below(6)) {
+    switch (below(7)) {
     case 0:
-        for (uint32_t n = between(1, 4); n > 0; n--) {
-            uint32_t bit = below(8 * (uint32_t)count);
-            sheet[bit / 8] ^= (uint8_t)(1u << bit % 8);
-        }
+        flip_bits(sheet, count);
         return count;
-    case 1: case 2:
-        set_filling(sheet, count);
-        return count;
-    case 3:
-        paper_put(sheet, &place, 7, one_in(3) ? between(1, 64)
-                              : one_in(2) ? wrong_m[below(4)] : between(65, 127));
+    case 1:
+        paper_put(sheet, &place, 7, between(1, 64));
         return count;
     default:
-        return cut_or_stretch(sheet, count);
+        return damage_sheet(sheet, count, rows[below(5)]);
     }
 }
 
@@ -214,7 +281,7 @@ size_t draw_sheet(uint8_t *sheet)
         return draw_noise(sheet);
     draw_line(&line, draw_trains());
     if (share < 50)
-        damage_line(&line);
+        damage_line(&line, false);
     size_t count = paper_pack(&line, sheet);
     if (share < 20 || (share >= 50 && share < 75))
         count = damage_bytes(sheet, count);
