@@ -20,30 +20,46 @@ help:
 	@echo 'make vectors   compare the test inputs, and the answers not written by hand, with what makes them'
 	@echo 'make wrong     tell how many test records each of 30 wrong rules of plan and 45 of report changes (2 minutes)'
 	@echo 'make format    lay out every source file'
+	@echo 'with EMULATED=1, what is run from outside is run by an emulator, as on a machine that is not x86-64'
 
-# The archive and the programs are for x86-64 Linux. On another machine C is compiled for that and run by an emulator,
-# with fewer calls.
+# The archive and the programs are for x86-64 Linux; on another machine C is compiled for that and run by an emulator.
+BUILT = target/c
 ifeq ($(shell uname -m),x86_64)
 CC_X86 = gcc
 CXX_X86 = g++
-EMULATOR =
-CALLS = 200000
-SANITIZE = -g -fsanitize=address,undefined -fno-sanitize-recover=all
+ifneq ($(EMULATED),)
+BUILT = target/emulated
+endif
 else
 CC_X86 = x86_64-linux-gnu-gcc
 CXX_X86 = x86_64-linux-gnu-g++
-EMULATOR = qemu-x86_64 -L /usr/x86_64-linux-gnu
+EMULATED = 1
+endif
+export EMULATED
+
+# Under an emulator a loader and a C library from different places may meet, where two are installed for x86-64, and do
+# not fit. So C is linked statically, and the plan program runs with both from where the compiler has them.
+ifeq ($(EMULATED),)
+EMULATOR =
+LOADED_BY =
+STATIC =
+CALLS = 200000
+SANITIZE = -g -fsanitize=address,undefined -fno-sanitize-recover=all
+else
+EMULATOR = qemu-x86_64
+LOADER = $(shell $(CC_X86) -print-file-name=ld-linux-x86-64.so.2)
+LOADED_BY = $(LOADER) --library-path $(dir $(LOADER))
+STATIC = -static
 CALLS = 20000
 # without a library of its own, which an emulator may not bear
 SANITIZE = -g -fsanitize=undefined -fsanitize-undefined-trap-on-error
 endif
 
 ARCHIVE = target/staticlib/liboblachura.a
-BUILT = target/c
 WARN = -Wall -Wextra -Werror
 FAST = -O3 -falign-functions=64
 DESK = $(BUILT)/desk
-DISPLAY = $(CC_X86) -std=c11 -D_POSIX_C_SOURCE=200809L -O2 $(WARN) -Wshadow -Wconversion -Iinclude
+DISPLAY = $(CC_X86) $(STATIC) -std=c11 -D_POSIX_C_SOURCE=200809L -O2 $(WARN) -Wshadow -Wconversion -Iinclude
 REFUSING = tests/display/refusing/refusing.c -Wl,--wrap=oblachura_report,--wrap=oblachura_plan
 
 # Crates wait for those below them, so more jobs than processors keep all busy; 4 suits two processors.
@@ -95,21 +111,21 @@ outside: example program
 example: tools archive
 	@mkdir -p $(BUILT)
 	@$(CC_X86) -std=c99 -pedantic $(WARN) -fsyntax-only -x c include/oblachura.h
-	@$(CC_X86) -std=c11 $(WARN) -Iinclude examples/line_b.c $(ARCHIVE) -o $(BUILT)/line_b
+	@$(CC_X86) $(STATIC) -std=c11 $(WARN) -Iinclude examples/line_b.c $(ARCHIVE) -o $(BUILT)/line_b
 	@$(EMULATOR) $(BUILT)/line_b | cmp - examples/line_b.out
-	@$(CXX_X86) -std=c++17 $(WARN) -Iinclude -x c++ examples/line_b.c -x none $(ARCHIVE) -o $(BUILT)/line_b_cpp
+	@$(CXX_X86) $(STATIC) -std=c++17 $(WARN) -Iinclude -x c++ examples/line_b.c -x none $(ARCHIVE) -o $(BUILT)/line_b_cpp
 	@$(EMULATOR) $(BUILT)/line_b_cpp | cmp - examples/line_b.out
 	@echo 'the example prints what it must, as C and as C++'
 
 program: tools
 	$(RT)
 	@rt check plan > /dev/null 2>&1 || { rt check plan; exit 1; }
-	@bash tests/program.sh "$(CURDIR)/target/bin/plan" $(EMULATOR)
+	@bash tests/program.sh "$(CURDIR)/target/bin/plan" $(EMULATOR) $(LOADED_BY)
 
 # against document 01, then against each mistake that a reader of it might make
 boundary: tools archive
 	@mkdir -p $(BUILT)
-	@$(CC_X86) -std=c11 -O2 $(WARN) -Iinclude tests/boundary/*.c $(ARCHIVE) -o $(BUILT)/boundary
+	@$(CC_X86) $(STATIC) -std=c11 -O2 $(WARN) -Iinclude tests/boundary/*.c $(ARCHIVE) -o $(BUILT)/boundary
 	@$(EMULATOR) $(BUILT)/boundary --calls $(CALLS)
 	@$(EMULATOR) $(BUILT)/boundary --wrong
 
@@ -130,7 +146,7 @@ display: tools desk
 
 bench: tools archive
 	@mkdir -p $(BUILT)
-	@$(CC_X86) -std=c11 $(FAST) $(WARN) -DBUILT_WITH='"$(CC_X86) $(FAST)"' -Iinclude \
+	@$(CC_X86) $(STATIC) -std=c11 $(FAST) $(WARN) -DBUILT_WITH='"$(CC_X86) $(FAST)"' -Iinclude \
 	    bench/bench.c bench/plain_bits.c bench/plain_bytes.c $(ARCHIVE) -o $(BUILT)/bench
 	@$(EMULATOR) $(BUILT)/bench $(if $(EMULATOR),--emulated)
 
