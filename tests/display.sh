@@ -27,10 +27,14 @@ ends_with() {
   [ "$status" = "$1" ] || fail "status $status, not $1: $2"
 }
 
-# Waits until a file holds a text.
+# How often to look for what has to come, ten times a second: a quarter of an hour stands for never.
+looks=9000
+
+# Waits until the output of a board in the background holds a text.
 wait_for() {
-  for _ in $(seq 300); do
-    ! grep -q "$1" "$2" || return 0
+  for _ in $(seq "$looks"); do
+    ! grep -q "$1" "$room/out" || return 0
+    kill -0 "$2" 2> "$room/ignored" || fail "the board ended before '$1' came"
     sleep 0.1
   done
   fail "'$1' did not come"
@@ -39,7 +43,7 @@ wait_for() {
 # Sends a signal to a board in the background and waits for its end.
 stop_board() {
   kill -s "$1" "$2"
-  for _ in $(seq 300); do
+  for _ in $(seq "$looks"); do
     kill -0 "$2" 2> "$room/ignored" || break
     sleep 0.1
   done
@@ -173,7 +177,7 @@ signal_board() {
   # a shell has its jobs in the background ignore INT and QUIT; env undoes that
   env --default-signal=INT,QUIT "${emulator[@]}" "$program" board samples/B.sheet < "$room/in" > "$room/out" &
   exec 3> "$room/in"
-  wait_for accepted "$room/out"
+  wait_for accepted $!
   stop_board "$1" $!
   exec 3>&-
 }
@@ -186,7 +190,7 @@ done
 : > "$room/out"
 { yes '1 5' || true; } 2> "$room/ignored" |
   "${emulator[@]}" "$program" board samples/B.sheet > "$room/out" &
-wait_for accepted "$room/out"
+wait_for accepted $!
 stop_board TERM $!
 tail -n 2 "$room/out" | grep -q '^closed by a signal' || fail 'no end while commands come'
 

@@ -27,14 +27,14 @@ change() {
     if (at) $0 = substr($0, 1, at - 1) ENVIRON["NEW"] substr($0, at + length(ENVIRON["OLD"])); print }'
 }
 
-# passes SECONDS: builds the display twice, with the archive and with one that refuses, and tests both; a frame on a
-# terminal has so many seconds to come. What the tests say goes to the log.
+# Builds the display twice, with the archive and with one that refuses, and tests both. What the tests say goes to the
+# log.
 passes() {
   "${compile[@]}" "$room"/*.o "$archive" -o "$room/desk"
   "${compile[@]}" "$room"/*.o -Wl,--wrap=oblachura_report,--wrap=oblachura_plan "$room/refusing" "$archive" \
     -o "$room/desk_refusing"
   bash tests/display.sh "$room/desk" "$room/desk_refusing" "${emulator[@]}" > "$room/log" 2>&1 &&
-    PATIENCE=$1 bash tests/terminal.sh "$room/desk" "${emulator[@]}" > "$room/log" 2>&1
+    bash tests/terminal.sh "$room/desk" "${emulator[@]}" > "$room/log" 2>&1
 }
 
 # wrong SENTENCE WORDS FILE OLD NEW: a display in whose FILE.c the text OLD is NEW; a test has to say the words.
@@ -46,7 +46,7 @@ wrong() {
   }
   mv "$object" "$room/right"
   change "$4" "$5" < "$file" | "${compile[@]}" -Idisplay -x c -c - -o "$object"
-  if passes 6; then
+  if passes; then
     echo "not found: $1" >&2
     exit 1
   fi
@@ -59,7 +59,7 @@ wrong() {
   tried=$((tried + 1))
 }
 
-passes 30 || {
+passes || {
   cat "$room/log" >&2
   exit 1
 }
@@ -93,7 +93,7 @@ if [ "$terminal" = yes ]; then
     output '\033[2J\033[3J' '\033[2J'
   wrong 'the last plan stays on the terminal' 'a plan stays when the board is closed' \
     output 'screen.clears ? CLEAR' 'screen.clears && !last ? CLEAR'
-  wrong 'Ctrl-Z stops the board' 'the board goes on no more after Ctrl-Z' \
+  wrong 'Ctrl-Z stops the board' 'Ctrl-Z' \
     input '{SIGTSTP, SIGTTIN, SIGTTOU}' '{SIGTTIN, SIGTTOU}'
 fi
 echo "$tried of $tried wrong displays found"

@@ -1,11 +1,10 @@
 #!/usr/bin/env bash
 # Tests the board on a terminal of 80 columns and 24 lines: each frame takes the place of the one before, on the screen
 # and in what can be scrolled back to; the end of a long board is in sight; and no plan stays when the board closes.
-#   [PATIENCE=SECONDS] terminal.sh PROGRAM [EMULATOR ..]
+#   terminal.sh PROGRAM [EMULATOR ..]
 set -euo pipefail
 cd "$(dirname "$0")/.."
 words=("${@:2}" "$1")
-tenths=$((10 * ${PATIENCE:-30}))
 room=$(mktemp -d)
 tmux=(tmux -L "board$$" -f "$room/conf")
 trap '"${tmux[@]}" kill-server 2> "$room/ignored" || true; rm -rf "$room"' EXIT
@@ -30,20 +29,23 @@ look() {
   sed -e 's/ *$//' "$room/all" | sed -e ':a' -e '/^\n*$/{$d;N;ba' -e '}' > "$room/seen"
 }
 
-# wait_until REASON CONDITION ..: looks until the condition holds.
+# wait_until REASON CONDITION ..: looks until the condition holds, or the board has ended or was stopped. A quarter of an
+# hour stands for never.
 wait_until() {
   local reason=$1
   shift
-  for _ in $(seq "$tenths"); do
+  for _ in $(seq 9000); do
     look
     ! "$@" || return 0
+    ! shows_line '^status ' || break
     sleep 0.1
   done
   fail "$reason"
 }
 
-shows_frame() {
-  cmp -s "$room/seen" "$room/frame"
+# The board has answered a command, and its prompt stands below the answer.
+has_answered() {
+  [ "$(tail -n 3 "$room/seen" | sed 2d)" = "$(printf 'command   %s\n>' "$1")" ]
 }
 
 shows_line() {
@@ -61,6 +63,12 @@ frame_of() {
   echo '>' >> "$room/frame"
 }
 
+# Once a command is answered, the terminal holds the frame and nothing else.
+holds_frame() {
+  wait_until "no answer to '$1'" has_answered "$1"
+  cmp -s "$room/seen" "$room/frame" || fail "the frame after '$1' differs"
+}
+
 # Opens a board as a shell with job control does, so that Ctrl-Z has its meaning; its status stays below it.
 open_board() {
   "${tmux[@]}" new-session -d -x 80 -y 24 "$(printf '%q ' bash --norc -c \
@@ -75,13 +83,13 @@ type_line() {
 frames=tests/display/line_64.reports.out
 open_board "${words[@]}" board samples/line_64.sheet
 frame_of "$frames" 1
-wait_until 'the first frame differs' shows_frame
+holds_frame plan
 at=1
 while read -r command; do
   type_line "$command"
   at=$((at + 1))
   frame_of "$frames" "$at"
-  wait_until "the frame after '$command' differs" shows_frame
+  holds_frame "$command"
 done < tests/display/line_64.reports.in
 
 # In sight are the last trains, the titles again, the total and the answer.
