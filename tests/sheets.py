@@ -17,11 +17,11 @@
 #        lengths, which hold 77 in every place before.
 #        Prints: read NUMBER PLACE M T S1 S2 S3 S4, the sums being of the lists
 #        afterwards; and, if accepted, what write makes of the numbers in 3907
-#        bytes of 165: back NUMBER PLACE LENGTH SAME REST, SAME being 1 if it is
-#        the sheet and REST 1 if all behind it is still 165.
+#        bytes of 165: back NUMBER PLACE LENGTH S REST, S being the sum of the sheet
+#        and REST that of what stands behind it.
 #   'W'  u32 m, u32 T, u16 a, b, c, d, u16 room, then a+b+c+d numbers of u32:
 #        four lists to write into `room` bytes of 165.
-#        Prints: write NUMBER PLACE LENGTH S REST, S being the sum of the sheet.
+#        Prints: write NUMBER PLACE LENGTH S REST, as for back.
 # A sum is each place, from 1, times what stands there.
 
 import os
@@ -1116,14 +1116,13 @@ def answers():
             if number == 0:
                 number, place, length, buffer = write(
                     m, T, d[:m], r[:m], y[:m], p[:pairs_of(m)], 3907)
-                same = 1 if buffer[:length] == sheet else 0
-                rest = 1 if all(byte == 165 for byte in buffer[length:]) else 0
-                assert (number, place, length, same, rest) == (0, 0, len(sheet), 1, 1)
-                lines.append('back %d %d %d %d %d' % (number, place, length, same, rest))
+                assert (number, place, buffer[:length]) == (0, 0, sheet)
+                lines.append('back %d %d %d %d %d' % (
+                    number, place, length, weighed(sheet), weighed(buffer[length:])))
         else:
             number, place, length, buffer = write(*record[1:])
-            rest = 1 if all(byte == 165 for byte in buffer[length:]) else 0
-            lines.append('write %d %d %d %d %d' % (number, place, length, weighed(buffer[:length]), rest))
+            lines.append('write %d %d %d %d %d' % (
+                number, place, length, weighed(buffer[:length]), weighed(buffer[length:])))
     return ('\n'.join(lines) + '\n').encode('ascii')
 
 

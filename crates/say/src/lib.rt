@@ -15,15 +15,6 @@ pub fn next(n: u64) {
     number(n);
 }
 
-// A space, then 1 or 0.
-pub fn next_bool(b: bool) {
-    if b {
-        word(b" 1");
-    } else {
-        word(b" 0");
-    }
-}
-
 // The end of the line.
 pub fn end() {
     word(b"\n");

@@ -26,16 +26,8 @@ fn left(departures: &[u32], driving: &[u32], delays: &[u32], passengers: &[u32])
     say::end();
 }
 
-// Whether write gave the sheet back, and whether the rest of the buffer is as it was.
-fn compare(sheet: &[u8], length: usize, buffer: &[u8]) {
-    let written = &buffer[0..at_most(length, buffer.len())];
-    say::next_bool(check::same(written, sheet));
-    writes::rest(buffer, length);
-}
-
 // The numbers that read gave, written again.
 fn write_back(
-    sheet: &[u8],
     m: u32,
     period: u32,
     departures: &[u32],
@@ -55,7 +47,7 @@ fn write_back(
     );
     say::word(b"back");
     writes::show(w);
-    compare(sheet, w.length(), &buffer);
+    writes::left(&buffer, w.length());
 }
 
 // The passenger fields of `m` trains, of which read never answers more than 64.
@@ -65,18 +57,10 @@ fn pairs(m: usize) -> usize {
 
 // An accepted sheet is written again from the first m places of three lists and the first m(m+1)/2
 // of the fourth.
-fn back(
-    sheet: &[u8],
-    r: Reading,
-    departures: &[u32],
-    driving: &[u32],
-    delays: &[u32],
-    passengers: &[u32],
-) {
+fn back(r: Reading, departures: &[u32], driving: &[u32], delays: &[u32], passengers: &[u32]) {
     if let Reading::Accepted(m, period) = r {
         let n = m as usize;
         write_back(
-            sheet,
             m,
             period,
             &departures[0..at_most(n, departures.len())],
@@ -97,7 +81,7 @@ fn read_into(
     let r = reader::read(sheet, departures, driving, delays, passengers);
     show(r);
     left(departures, driving, delays, passengers);
-    back(sheet, r, departures, driving, delays, passengers);
+    back(r, departures, driving, delays, passengers);
 }
 
 // Lists of 77s of these lengths.

@@ -16,20 +16,12 @@ pub fn show(w: Writing) {
     say::next(w.length() as u64);
 }
 
-// Whether all behind the sheet is as it was, and the end of the line.
-pub fn rest(buffer: &[u8], length: usize) {
-    let before = [BEFORE; 4000];
-    let room = at_most(buffer.len(), 4000);
-    let behind = at_most(length, room);
-    say::next_bool(check::same(&buffer[behind..], &before[behind..room]));
+// What write left: the sheet, and what stands behind it.
+pub fn left(buffer: &[u8], length: usize) {
+    let end = at_most(length, buffer.len());
+    say::next(sums::bytes(&buffer[0..end]));
+    say::next(sums::bytes(&buffer[end..]));
     say::end();
-}
-
-// What write left: the sheet, and the rest.
-fn left(buffer: &[u8], length: usize) {
-    let written = &buffer[0..at_most(length, buffer.len())];
-    say::next(sums::bytes(written));
-    rest(buffer, length);
 }
 
 fn write_into(
