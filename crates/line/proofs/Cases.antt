@@ -15,7 +15,7 @@ use Rattle.line.specs.Policy.{arrival, excess, departure, missed, atFirs
 use Rattle.line.specs.Cells.{leaving, aboard, runFrom, excessOn, arrivalOn, keepCost, goCost, cellBy, choice}
 use Rattle.line.specs.Cells.{begins, policyBy, decide, bookOf}
 use Rattle.line.specs.Answers.{Rows, Answer, policyFrom, tableFrom, PolicyAnswer, PlanAnswer, WorkedAnswer}
-use Rattle.line.specs.Cases.{Case, policy, plan, report, rework, Holds, lineA, a, table, CasesHold}
+use Rattle.line.specs.Cases.{reported, Case, policy, plan, report, rework, Holds, lineA, a, table, CasesHold}
 use Rattle.line.proofs.Worked.{cell-means}
 use Rattle.line.proofs.Listing.{better, firstLeast, first-least-length, first-least-is-plan}
 use Rattle.line.proofs.Rows.{rowsOf, reworked, reworked-in-use, reworked-worked}
@@ -57,13 +57,14 @@ module _ (L : Line) (x : Answer) where
 abbrev computed : Case → List Answer
 computed (policy L x) = followed L x ∷ []
 computed (plan L x) = planned L x ∷ worked L x (L .trains) [] ∷ []
-computed (report t before L x) = planned L x ∷ worked L x t (before .rows) ∷ []
+computed (report t y line delay before x) =
+    planned (line (reported t y delay)) x ∷ worked (line (reported t y delay)) x t (before .rows) ∷ []
 computed (rework t before L x) = worked L x t before ∷ []
 
 abbrev printed : Case → List Answer
 printed (policy L x) = x ∷ []
 printed (plan L x) = x ∷ x ∷ []
-printed (report t before L x) = x ∷ x ∷ []
+printed (report t y line delay before x) = x ∷ x ∷ []
 printed (rework t before L x) = x ∷ []
 
 -- ---- what is computed as printed holds
@@ -106,7 +107,9 @@ module _ (L : Line) (x : Answer) where
 case-holds : (c : Case) → computed c ≡ printed c → Holds c
 case-holds (policy L x) e = followed-holds L x (cc)
 case-holds (plan L x) e = (planned-holds L x (cc), worked-holds L x (L .trains) [] (cc))
-case-holds (report t before L x) e = (planned-holds L x (cc), worked-holds L x t (before .rows) (cc))
+case-holds (report t y line delay before x) e =
+    let L = line (reported t y delay) in
+    (planned-holds L x (cc), worked-holds L x t (before .rows) (cc))
 case-holds (rework t before L x) e = worked-holds L x t before (cc)
 
 each-holds : (c : Case) (cs : List Case) → List·Memᴰ c cs → map computed cs ≡ map printed cs → Holds c

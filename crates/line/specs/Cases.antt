@@ -1,4 +1,5 @@
 -- Document 01, "Sums to check by hand": the cases a, b1 to b8, c, d as one table under one claim.
+--   reported    source delays with that of one train replaced
 --   Case        a line and the answer printed for a policy, for the plan or for a report
 --   Holds       what a case says of its line
 --   table       the cases, in document 01's order
@@ -13,18 +14,23 @@ use Rattle.line.specs.Line.{Line, lineFrom}
 use Rattle.line.specs.Policy.{Decision, Keep, Go}
 use Rattle.line.specs.Answers.{Rows, Answer, tableFrom, PolicyAnswer, PlanAnswer, WorkedAnswer}
 
--- A report of train t is taken over the rows of an answer before, on the line as it then is, and leaves the plan of
--- that line. Over rows that no plan left, nothing but the rule fixes what it leaves.
+-- train t reported at y
+abbrev pub reported : ℕ → ℕ → (ℕ → ℕ) → ℕ → ℕ
+reported t y delay i = ifSame i t y (delay i)
+
+-- Train t is reported at y, on a line by its source delays, over the rows of an answer before: that leaves the plan of
+-- the line as it then is. Over rows that no plan left, nothing but the rule fixes what it leaves.
 pub data Case : Type 0 where
   policy plan : Line → Answer → Case
-  report : ℕ → Answer → Line → Answer → Case
+  report : ℕ → ℕ → ((ℕ → ℕ) → Line) → (ℕ → ℕ) → Answer → Answer → Case
   rework : ℕ → Rows → Line → Answer → Case
 
 -- a plan works every row, so that none before is read
 abbrev pub Holds : Case → Type 0
 Holds (policy L x) = PolicyAnswer L x
 Holds (plan L x) = PlanAnswer L x × WorkedAnswer L (L .trains) [] x
-Holds (report t before L x) = PlanAnswer L x × WorkedAnswer L t (before .rows) x
+Holds (report t y line delay before x) =
+    PlanAnswer (line (reported t y delay)) x × WorkedAnswer (line (reported t y delay)) t (before .rows) x
 Holds (rework t before L x) = WorkedAnswer L t before x
 
 -- ---- the lines
@@ -44,10 +50,6 @@ lineB T delay =
 
 abbrev pub delaysB : ℕ → ℕ
 delaysB = nth (9 ∷ 3 ∷ 0 ∷ [])
-
--- train t reported at y
-abbrev reported : ℕ → ℕ → (ℕ → ℕ) → ℕ → ℕ
-reported t y delay i = ifSame i t y (delay i)
 
 abbrev pub delaysB7 : ℕ → ℕ
 delaysB7 = reported 1 5 delaysB
@@ -104,8 +106,8 @@ table =
     ∷ plan (lineB 10 delaysB) b4
     ∷ plan (lineB 12 delaysB) b5
     ∷ plan (lineB 13 delaysB) b6
-    ∷ report 1 b4 (lineB 10 delaysB7) b7
-    ∷ report 2 b7 (lineB 10 delaysB8) b8
+    ∷ report 1 5 (lineB 10) delaysB b4 b7
+    ∷ report 2 6 (lineB 10) delaysB7 b7 b8
     -- c: both policies, and the plan
     ∷ policy lineC (answer (Keep ∷ []) (5 ∷ 5 ∷ []) 10 [])
     ∷ policy lineC (answer (Go ∷ []) (5 ∷ 0 ∷ []) 10 [])
