@@ -1,5 +1,5 @@
--- Demands 1 and 2 of the operations, from their contracts alone. The decision bytes show the policy of the contract on trains 2 to m, and
--- nothing else of a policy is ever read.
+-- Demands 1 and 2 of the operations, from their contracts alone. The decision bytes show the policy of the contract on
+-- trains 2 to m, and nothing else of a policy is ever read.
 -- Assumes nothing.
 use mathlib.Core.Path.{_≡_, refl, sym, ap, subst, _∙_}
 use mathlib.Core.List.{List}

@@ -6,8 +6,8 @@ use Rattle.demands.proofs.Runs.{demand-3}
 use Rattle.demands.proofs.Sheets.{answers-a, answers-b, answers-b13}
 use Rattle.demands.proofs.Reports.{answers-b7, answers-b8}
 use Rattle.demands.proofs.Useless.{refuses-all-breaks, same-decisions-break, all-keep-breaks}
-use Rattle.demands.proofs.Useless.{does-nothing-breaks, stays-blank-breaks, repeats-plan-breaks}
-use Rattle.demands.proofs.Useless.{writes-early-breaks}
+use Rattle.demands.proofs.Useless.{does-nothing-breaks, decisions-stay-break, stays-blank-breaks}
+use Rattle.demands.proofs.Useless.{repeats-plan-breaks, writes-early-breaks}
 
 pub promises : Promises
 promises =
@@ -25,6 +25,7 @@ promises =
       same-decisions = same-decisions-break;
       all-keep = all-keep-breaks;
       does-nothing = does-nothing-breaks;
+      decisions-stay = decisions-stay-break;
       stays-blank = stays-blank-breaks;
       repeats-plan = repeats-plan-breaks;
       writes-early = writes-early-breaks;

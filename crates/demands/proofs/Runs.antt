@@ -1,5 +1,6 @@
--- Demand 3 of the operations, from their contracts alone. In a run the sheet is always accepted and the cells in use are its plan's; so no
--- cell is over the limit, and rows 1 to a train worked anew are the whole plan of the sheet as it then stands.
+-- Demand 3 of the operations, from their contracts alone. In a run the sheet is always accepted and the cells in use
+-- are its plan's; so no cell is over the limit, and rows 1 to a train worked anew are the whole plan of the sheet as it
+-- then stands.
 -- Assumes nothing.
 use mathlib.Core.Path.{_≡_, refl, sym, ap, subst, _∙_}
 use mathlib.Core.List.{List}

@@ -16,7 +16,7 @@ use Rattle.amend.specs.Checks.{FirstOver}
 use Rattle.planner.specs.Outcome.{answerTotal}
 use Rattle.demands.specs.Sheets.{sheetB, decisionBytes}
 use Rattle.demands.specs.Useless.{RefusesAllBreaks, SameDecisionsBreak, AllKeepBreaks, DoesNothingBreaks}
-use Rattle.demands.specs.Useless.{StaysBlankBreaks, RepeatsPlanBreaks, WritesEarlyBreaks}
+use Rattle.demands.specs.Useless.{DecisionsStayBreak, StaysBlankBreaks, RepeatsPlanBreaks, WritesEarlyBreaks}
 use Rattle.demands.proofs.Sheets.{sheet-b-accepted, answers-b, answers-b13}
 use Rattle.demands.proofs.Reports.{trains-b, answers-b7}
 use Rattle.demands.proofs.Answered.{all-right, report-answered}
@@ -33,7 +33,8 @@ refuses-all-breaks before after r right h =
 pub same-decisions-break : SameDecisionsBreak
 same-decisions-break before after before′ after′ a a′ right right′ h h′ same =
     let zero = byte-two (after .decisions) (decisionBytes b4) (answers-b before after a right h .held .decisions) in
-    let one = byte-two (after′ .decisions) (decisionBytes b6) (answers-b13 before′ after′ a′ right′ h′ .held .decisions) in
+    let thirteen = answers-b13 before′ after′ a′ right′ h′ in
+    let one = byte-two (after′ .decisions) (decisionBytes b6) (thirteen .held .decisions) in
     zero-not-one (sym zero ∙ ap (λ (l : List ℕ). nth l 2) same ∙ one)
 
 pub all-keep-breaks : AllKeepBreaks
@@ -47,6 +48,10 @@ all-keep-breaks before after a right h same =
 
 pub does-nothing-breaks : DoesNothingBreaks
 does-nothing-breaks b a right other h = other (answers-b b b a right h .held)
+
+pub decisions-stay-break : DecisionsStayBreak
+decisions-stay-break before after a right other h same =
+    other (sym same ∙ answers-b before after a right h .held .decisions)
 
 pub stays-blank-breaks : StaysBlankBreaks
 stays-blank-breaks before after a right blank h same =

@@ -23,7 +23,7 @@ pub record Calling : Type 1 where
   pub total : Result → ℕ
   -- plan x s before after a: called so, plan may answer a and leave the buffers so
   pub plan : Beside → List ℕ → Buffers → Buffers → Result → Type 0
-  -- report x s i v before t after a: the same of the report that train i has the source delay v; t is the sheet it leaves
+  -- report x s i v before t after a: the same of the report that train i has the source delay v; t is the sheet then
   pub report : Beside → List ℕ → ℕ → ℕ → Buffers → List ℕ → Buffers → Result → Type 0
 
 pub record Right (C : Calling) (x : C .Beside) (b : Buffers) : Type 0 where

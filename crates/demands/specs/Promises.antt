@@ -8,7 +8,7 @@ use Rattle.demands.specs.Least.{Demand2, OneMeaning}
 use Rattle.demands.specs.Runs.{Demand3}
 use Rattle.demands.specs.Sheets.{AnswersA, AnswersB, AnswersB13, AnswersB7, AnswersB8}
 use Rattle.demands.specs.Useless.{RefusesAllBreaks, SameDecisionsBreak, AllKeepBreaks, DoesNothingBreaks}
-use Rattle.demands.specs.Useless.{StaysBlankBreaks, RepeatsPlanBreaks, WritesEarlyBreaks}
+use Rattle.demands.specs.Useless.{DecisionsStayBreak, StaysBlankBreaks, RepeatsPlanBreaks, WritesEarlyBreaks}
 
 pub record Promises : Type 0 where
   pub first-demand : Demand1 operations
@@ -26,6 +26,7 @@ pub record Promises : Type 0 where
   pub same-decisions : SameDecisionsBreak
   pub all-keep : AllKeepBreaks
   pub does-nothing : DoesNothingBreaks
+  pub decisions-stay : DecisionsStayBreak
   pub stays-blank : StaysBlankBreaks
   pub repeats-plan : RepeatsPlanBreaks
   pub writes-early : WritesEarlyBreaks

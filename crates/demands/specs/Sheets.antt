@@ -2,7 +2,7 @@
 -- b6), and what two reports answer after the plan of B (cases b7 and b8).
 --   sheetB, sheetB13             the bytes of sheet B, by the layout of "The bit sheet", and of B with T 13
 --   decisionBytes x              the decisions of the case x as bytes
---   Held m x b                   m trains: the decision bytes, delays and cells in use of b are those of the case x, the
+--   Held m x b                   m trains: decision bytes, delays and cells in use of b are those of the case x, the
 --                                other bytes and delays 0
 --   Leaves m x after a           that, and the answer is the total of the case x
 --   Answers s m x                plan leaves that on the sheet s, whatever buffers of the right lengths held before

@@ -4,8 +4,9 @@
 --   SameDecisionsBreak   one with the same decisions for all lines: those on sheet B differ from those on B with T 13,
 --   AllKeepBreaks        and are not keep throughout
 --   DoesNothingBreaks    one that does nothing: whatever cells, decisions and delays were, they do not all stay so,
---                        unless they were the plan's already
---   StaysBlankBreaks     one that leaves blank decisions blank
+--                        unless they were the plan's already;
+--   DecisionsStayBreak   nor do decisions alone that are not the plan's,
+--   StaysBlankBreaks     nor blank ones
 --   RepeatsPlanBreaks    one that plans honestly and then merely repeats its plan at each report: after b4 the report
 --                        of b7 leaves other decisions, other delays and another total than the plan
 --   WritesEarlyBreaks    one that writes the sheet before it tests 12: with a later cell over the limit the report of
@@ -30,7 +31,7 @@ use Rattle.planner.specs.Plan.{Plan}
 use Rattle.planner.specs.Report.{Report}
 use Rattle.demands.specs.Calling.{operations}
 use Rattle.demands.specs.Answered.{Carries}
-use Rattle.demands.specs.Sheets.{sheetB, sheetB13, Held, ReportAfterB4}
+use Rattle.demands.specs.Sheets.{sheetB, sheetB13, decisionBytes, Held, ReportAfterB4}
 
 abbrev pub RefusesAllBreaks : Type 0
 RefusesAllBreaks =
@@ -60,6 +61,14 @@ DoesNothingBreaks =
     → RightLengths b
     → ¬ (Held 3 b4 b)
     → ¬ (Plan sheetB b b a)
+
+abbrev pub DecisionsStayBreak : Type 0
+DecisionsStayBreak =
+    (before after : Buffers) (a : Answer)
+    → RightLengths before
+    → ¬ (before .decisions ≡ padded 64 3 (nth (decisionBytes b4)))
+    → Plan sheetB before after a
+    → ¬ (after .decisions ≡ before .decisions)
 
 abbrev pub StaysBlankBreaks : Type 0
 StaysBlankBreaks =
