@@ -1,5 +1,5 @@
--- Demand 1 of one call from C, from that of the operation. A call either ran the operation, whose answer it returned and
--- stored, or had a wrong list for the answer, returned 10 and left everything as it was.
+-- Demand 1 of one call from C, from that of the operation. A call either ran the operation, whose answer it returned
+-- and stored, or had a wrong list for the answer, returned 10 and left everything as it was.
 -- Assumes nothing.
 use Prim.Native.Nat.{ℕ}
 use native.Mathlib.Nat.{le-trans, le-of-eq}
@@ -88,7 +88,8 @@ module _ (list : List ℕ) {checks : Verdict} {Passes : Type 0} {m last : ℕ} {
             run .of .blanks (all-right (right .buffers)) (λ zero. refused (run .tells .number ∙ zero));
         untouched = λ wrong. elim (same-or-not (length list) 3) [
           | inl long ↦
-              let same = ran long .of .untouched (λ right. wrong (record { beside = long; buffers = right .buffers })) in
+              let same = ran long .of .untouched (λ right.
+              wrong (record { beside = long; buffers = right .buffers })) in
               (ran long .tells .number ∙ same .0, same .1)
           | inr other ↦ kept other
         ];

@@ -4,13 +4,13 @@ use Prim.Native.Nat.{ℕ}
 use native.Mathlib.Omega.{arith}
 use mathlib.Core.Path.{_≡_, refl, ap, sym, _∙_}
 use mathlib.Core.Logic.{inl, inr}
-use mathlib.Core.List.{List}
+use mathlib.Core.List.{List, _∷_}
 use lib.ListN.{length}
 use Rattle.lists.proofs.Order.{same-or-not}
 use Rattle.rail.specs.declared.Refusal.the-variants.{BufferLength}
 use Rattle.rail.specs.declared.Verdict.{Verdict}
 use Rattle.rail.specs.Refusal.{numberOf}
-use Rattle.rail.specs.Verdict.{numberIn}
+use Rattle.rail.specs.Verdict.{numberIn, placeIn}
 use Rattle.rail.proofs.Refusing.{zero-is-fine}
 use Rattle.oblachura.specs.Call.{Told, Call}
 use Rattle.oblachura.specs.Promises.{One, Returns}
@@ -52,17 +52,19 @@ module _ {X A : Type 0} {n : ℕ} {number : A → ℕ} {numbers : A → List ℕ
         (t .kept ∙ sym (u .kept), t .stores ∙ sym (u .stores), t .returns ∙ sym (u .returns))
   ]
 
-  -- where the answer carries the number of the checks, the call returns it
-  pub call-returns : {after : X} {stored : List ℕ} {r : ℕ} (checks : Verdict)
-      → ((a : A) → Leaves after a → number a ≡ numberIn checks)
+  -- where the answer carries the number and the place of the checks, the call returns and stores them
+  pub call-returns : {after : X} {stored : List ℕ} {r : ℕ} (checks : Verdict) (brought : List ℕ)
+      → ((a : A) → Leaves after a
+      → (number a ≡ numberIn checks) × (numbers a ≡ numberIn checks ∷ placeIn checks ∷ brought))
       → Call n number numbers Leaves before list after stored r
-      → Returns n list checks r
-  call-returns {r = r} checks carries h =
+      → Returns n list checks brought stored r
+  call-returns {r = r} checks brought carries h =
       let listed : length list ≡ n → r ≡ numberIn checks =
-      λ long. h .told long .returns ∙ carries (h .told long .answer) (h .told long .done) in
+      λ long. h .told long .returns ∙ carries (h .told long .answer) (h .told long .done) .0 in
       record {
         listed = listed;
-        wrong-list = λ other. h .wrong-list other .returns;
+        stores = λ long. h .told long .stores ∙ carries (h .told long .answer) (h .told long .done) .1;
+        wrong-list = λ other. (h .wrong-list other .returns, h .wrong-list other .stores);
         zero = λ e. elim (same-or-not (length list) n) [
           | inl long ↦ (long, zero-is-fine checks (sym (listed long) ∙ e))
           | inr other ↦ let ten = h .wrong-list other .returns in absurd (omega (arith, e, ten))

@@ -101,7 +101,8 @@ module _ (list s : List ℕ) (before after : Buffers) (a : Result)
   -- the operation was run, and accepted
   ran-accepted : Ran a (λ b. Plan s before after b × (answerNumber b ≡ 0))
   ran-accepted =
-      let ran = plan-ran list s before after a h (plan-answered list s before after a h .accepted-only zero .0 .beside) in
+      let right = plan-answered list s before after a h .accepted-only zero .0 in
+      let ran = plan-ran list s before after a h (right .beside) in
       record { answer = ran .answer; tells = ran .tells; of = (ran .of, sym (ran .tells .number) ∙ zero) }
 
   least : LeastPlan (lineOf (numbersOf s)) after (fromC .total a)

@@ -1,5 +1,5 @@
--- The three demands, of the calls from C: by the number that a call returns and by what it stores. Document 00; document
--- 01, "Four operations".
+-- The three demands, of the calls from C: by the number that a call returns and by what it stores. Document 00;
+-- document 01, "Four operations".
 --   Result            what a call of plan or report returns, and what the list for the answer then holds
 --   fromC             plan and report as C calls them: the list for the answer is lent beside sheet and buffers
 --   PlanStores        what an accepted plan stores in that list
