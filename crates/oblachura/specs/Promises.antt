@@ -33,7 +33,7 @@ abbrev pub One : {X : Type 0} → (X → List ℕ → ℕ → Type 0) → Type 0
 One {X} Leaves = (after after′ : X) (stored stored′ : List ℕ) (r r′ : ℕ) → Leaves after stored r
     → Leaves after′ stored′ r′ → (after ≡ after′) × (stored ≡ stored′) × (r ≡ r′)
 
--- brought: what the call brings besides, with all checks passed or with a refusal
+-- brought: what is to stand behind number and place
 pub record Returns (n : ℕ) (list : List ℕ) (checks : Verdict) (brought stored : List ℕ) (r : ℕ) : Type 0 where
   -- the number of the first check that fails, 0 where all pass
   pub listed : length list ≡ n → r ≡ numberIn checks
