@@ -52,7 +52,7 @@ declared() {
 read_crates() {
   local source name calls room
   room=$(mktemp -d)
-  grep -rlE '/\*|b"[^"]*//' "$1" --include='*.rt' | sed 's/.*/& may hide what follows/' || true
+  grep -rlE '/\*|b"[^"]*//' "$1" --include='*.rt' | sed 's|$| has /* or a // in bytes, which may hide a clause|' || true
   calls=$(without_comments "$1"/caller/src/*.rt)
   ! grep -qw requires <<< "$calls" || echo 'caller has a requires'
   find "$1" -path '*/src/*' -name '*.rt' | sort | while IFS= read -r source; do
@@ -91,7 +91,7 @@ must_find() {
 wrong() {
   local call='fn c() { oblachura_one(a) }' fn='pub extern "C" fn oblachura_one() -> u32'
   local asks='oblachura_one has a requires' promise='ensures { λ r. ⌜ record { x = r } ⌝ }'
-  local hidden='crates/one/src/lib.rt may hide what follows'
+  local hidden='crates/one/src/lib.rt has /* or a // in bytes, which may hide a clause'
   must_find '' "$fn $promise { a }" "$call // requires nothing"
   must_find "$asks" "$fn
     requires { ⌜ length (now answer) < 0 ⌝ }
