@@ -1,4 +1,6 @@
 pub mod Place
-pub mod Given
-pub mod Summed
+pub mod Timing
+pub mod Sums
+pub mod Book
+pub mod Costs
 pub mod Shown

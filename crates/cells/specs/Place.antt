@@ -1,5 +1,6 @@
 -- Where the working cells stand. Document 01, "The working cells". Cell (k, l), of the run that begins with train k and
 -- of station l, is in use where 1 ≤ k ≤ l ≤ m; places count from 0.
+--   cellCount                     how many working cells are lent
 --   place m k l                   where cell (k, l) of a line of m trains stands
 --   tableOf m cells               the table that a list of cells holds for m trains
 --   InRow m k p                   p is the place of a cell in use of row k
@@ -12,6 +13,9 @@ use mathlib.Core.List.{List}
 use lib.ListN.{length, getD}
 use Rattle.lists.specs.Choice.{ifBelow}
 use Rattle.line.specs.Cells.{Table, Book, Worked}
+
+abbrev pub cellCount : ℕ
+cellCount = 4096
 
 -- Cell (k, l) stands at 64(k-1)+(l-1), whatever the number of trains.
 unfoldable pub place : ℕ → ℕ → ℕ → ℕ
