@@ -1,8 +1,11 @@
--- Laws of checks in their order, as a function that answers a verdict uses them: a
--- test that refused is the answer (`hit`, `unlike`), a test that passed leaves the
--- rest (`miss`, `alike`); and what a verdict that is fine tells of each check.
+-- Laws of checks in their order, as a function that answers a verdict uses them: a test that refused is the answer
+-- (`hit`, `unlike`), a test that passed leaves the rest (`miss`, `alike`); and a list of checks is fine exactly when each
+-- of them passes.
+--   Passes c, refusalOf c    the check c finds nothing; what it refuses for
+--   Passed checks            each of them passes
 -- Assumes nothing.
 use mathlib.Core.Path.{_≡_, refl, sym, ap, subst, _∙_}
+use mathlib.Core.List.{List, [], _∷_}
 use mathlib.Core.Logic.{_⊎_, inl, inr, ⊎-elim}
 use Prim.Native.Nat.{ℕ, zero, suc, _+_, _-_, _≤_, _<_}
 use borrow.Author.Needs.{needs}
@@ -16,7 +19,7 @@ use Rattle.lists.proofs.Run.{run-next, run-none}
 use Rattle.rail.specs.declared.Refusal.{Refusal}
 use Rattle.rail.specs.declared.Verdict.{Verdict}
 use Rattle.rail.specs.declared.Verdict.the-variants.{Fine, Refused}
-use Rattle.rail.specs.Verdict.{refuse_when_below_, refuse_unless_is_, _andThen_, firstOf, ifFine}
+use Rattle.rail.specs.Verdict.{Check, refuse_when_below_, refuse_unless_is_, verdictOf, _andThen_, firstOf, ifFine}
 
 -- ---- a check and those that follow
 
@@ -56,51 +59,78 @@ then-assoc (Refused r) y z = refl
 pub fine-then : {x y : Verdict} → x ≡ Fine → y ≡ Fine → x andThen y ≡ Fine
 fine-then {x} {y} p q = sym (then-pass x y Fine p (sym q))
 
-module _ (r : Refusal) (a b : ℕ) where
-  -- ---- a number below another
+-- ---- a list of checks
 
-  pub refused-below : a < b → Refused r ≡ refuse r when a below b
-  unfolding refuse_when_below_
-  refused-below l = sym (below-yes _ _ l)
+-- the check c finds nothing
+abbrev pub Passes : Check → Type 0
+Passes (refuse r when a below b) = b ≤ a
+Passes (refuse r unless a is b) = a ≡ b
 
-  pub fine-not-below : b ≤ a → refuse r when a below b ≡ Fine
-  unfolding refuse_when_below_
-  fine-not-below l = below-no _ _ l
+abbrev pub refusalOf : Check → Refusal
+refusalOf (refuse r when a below b) = r
+refusalOf (refuse r unless a is b) = r
 
-  pub hit : (y : Verdict) → a < b → Refused r ≡ (refuse r when a below b) andThen y
-  hit y l = then-stop (refuse r when a below b) y refl (refused-below l)
+-- a check refuses or leaves the rest
+pub check-or-rest : (c : Check) (rest : List Check)
+    → ((Passes c → ⊥) × (verdictOf (c ∷ rest) ≡ Refused (refusalOf c))) ⊎ (Passes c × (verdictOf (c ∷ rest) ≡ verdictOf rest))
+unfolding verdictOf
+check-or-rest (refuse r when a below b) rest = elim (lt-or-ge a b) [
+  | inl l ↦ inl ((λ p. omega arith), below-yes _ _ l)
+  | inr l ↦ inr (l, below-no _ _ l)
+]
+check-or-rest (refuse r unless a is b) rest = elim (ℕ-discrete a b) [
+  | yes e ↦ inr (e, same-yes _ _ e)
+  | no n ↦ inl (n, same-no _ _ n)
+]
 
-  pub miss : (y w : Verdict) → b ≤ a → w ≡ y → w ≡ (refuse r when a below b) andThen y
-  miss y w l e = then-pass (refuse r when a below b) y w (fine-not-below l) e
+-- every check of a list finds nothing: fine exactly then
+abbrev pub Passed : List Check → Type 0
+Passed [] = Unit {0}
+Passed (c ∷ rest) = Passes c × Passed rest
 
-  pub not-below : refuse r when a below b ≡ Fine → b ≤ a
-  not-below e =
-      ⊎-elim
-      (λ (l : a < b). refused-not-fine (refused-below l ∙ e))
-      (λ (l : b ≤ a). l)
-      (lt-or-ge a b)
+pub passed-of-fine : (checks : List Check) → verdictOf checks ≡ Fine → Passed checks
+passed-of-fine [] e = tt
+passed-of-fine (c ∷ rest) e = elim (check-or-rest c rest) [
+  | inl (fails, refused) ↦ refused-not-fine (sym refused ∙ e)
+  | inr (passes, same) ↦ (passes, passed-of-fine rest (sym same ∙ e))
+]
 
-  -- ---- a number that is to be another
+pub fine-of-passed : (checks : List Check) → Passed checks → verdictOf checks ≡ Fine
+unfolding verdictOf
+fine-of-passed [] h = refl
+fine-of-passed (c ∷ rest) h = elim (check-or-rest c rest) [
+  | inl (fails, refused) ↦ absurd (fails (h .0))
+  | inr (passes, same) ↦ same ∙ fine-of-passed rest (h .1)
+]
 
-  pub refused-other : (a ≡ b → ⊥) → Refused r ≡ refuse r unless a is b
-  unfolding refuse_unless_is_
-  refused-other n = sym (same-no _ _ n)
+-- ---- what a function answers that tests one check after the other
 
-  pub fine-same : a ≡ b → refuse r unless a is b ≡ Fine
-  unfolding refuse_unless_is_
-  fine-same e = same-yes _ _ e
+pub hit : (r : Refusal) (a b : ℕ) (rest : List Check) → a < b → Refused r ≡ verdictOf ((refuse r when a below b) ∷ rest)
+unfolding verdictOf
+hit r a b rest l = sym (below-yes _ _ l)
 
-  pub unlike : (y : Verdict) → (a ≡ b → ⊥) → Refused r ≡ (refuse r unless a is b) andThen y
-  unlike y n = then-stop (refuse r unless a is b) y refl (refused-other n)
+pub miss : (r : Refusal) (a b : ℕ) (rest : List Check) (w : Verdict) → b ≤ a → w ≡ verdictOf rest
+    → w ≡ verdictOf ((refuse r when a below b) ∷ rest)
+unfolding verdictOf
+miss r a b rest w l e = e ∙ sym (below-no _ _ l)
 
-  pub alike : (y w : Verdict) → a ≡ b → w ≡ y → w ≡ (refuse r unless a is b) andThen y
-  alike y w q e = then-pass (refuse r unless a is b) y w (fine-same q) e
+pub unlike : (r : Refusal) (a b : ℕ) (rest : List Check) → (a ≡ b → ⊥)
+    → Refused r ≡ verdictOf ((refuse r unless a is b) ∷ rest)
+unfolding verdictOf
+unlike r a b rest n = sym (same-no _ _ n)
 
-  pub is-same : refuse r unless a is b ≡ Fine → a ≡ b
-  is-same e = elim (ℕ-discrete a b) [
-    | yes q ↦ q
-    | no n ↦ refused-not-fine (refused-other n ∙ e)
-  ]
+pub alike : (r : Refusal) (a b : ℕ) (rest : List Check) (w : Verdict) → a ≡ b → w ≡ verdictOf rest
+    → w ≡ verdictOf ((refuse r unless a is b) ∷ rest)
+unfolding verdictOf
+alike r a b rest w q e = e ∙ sym (same-yes _ _ q)
+
+pub no-more : Fine ≡ verdictOf []
+unfolding verdictOf
+no-more = refl
+
+-- `search chain depth n` answers a function's returns, n being one more than its tests: those that led there say which
+-- check is the first to refuse
+pub ruleset chain = (needs, hit, miss, unlike, alike, no-more)
 
 -- ---- a loop that looks for the first refusal of n checks, from check a on
 
@@ -180,8 +210,3 @@ if-fine v x y e = ap (λ (u : Verdict). ifFine u x y) e
 
 pub if-refused : {A : Type 0} (v : Verdict) (x y : A) {r : Refusal} → Refused r ≡ v → y ≡ ifFine v x y
 if-refused v x y e = ap (λ (u : Verdict). ifFine u x y) e
-
--- ---- a function that answers a chain of checks
-
--- `search chain` answers its returns: the tests that led there say which check is the first to refuse
-pub ruleset chain = (needs, hit, miss, unlike, alike)

@@ -1,22 +1,25 @@
--- Which refusals a chain of checks can give: what holds of each that it names holds of the one that it gives. And no
--- refusal has number 0.
+-- Which refusals checks can give: what holds of each that they name holds of the one that they give. And no refusal has
+-- number 0.
 --   Only P v   whatever the verdict v refuses for, P holds of it
+--   Each P checks   of each check, P holds of what it refuses for, or it passes
 -- Assumes nothing.
 use mathlib.Core.Path.{_≡_, refl, sym, _∙_}
-use mathlib.Core.Logic.{inl, inr}
-use Prim.Native.Nat.{ℕ, zero, suc, _+_, _≤_}
+use mathlib.Core.List.{List, [], _∷_}
+use mathlib.Core.Logic.{_⊎_, inl, inr}
+use Prim.Native.Nat.{ℕ, zero, suc, _+_}
 use native.Mathlib.Omega.{arith}
 use Rattle.lists.specs.Run.{runOf}
-use Rattle.lists.proofs.Order.{lt-or-ge, same-or-not}
+use Rattle.rail.specs.declared.ListFault.the-variants.{BufferLength, ListLength}
+use Rattle.rail.specs.declared.HeadFault.the-variants.{NoHead, TrainCount, Period, TooShort, TooLong}
+use Rattle.rail.specs.declared.TrainFault.the-variants.{Departure, Driving, SourceDelay, Slack}
+use Rattle.rail.specs.declared.ReportFault.the-variants.{NoSuchTrain, NewDelay, CellOverLimit}
 use Rattle.rail.specs.declared.Refusal.{Refusal}
-use Rattle.rail.specs.declared.Refusal.the-variants.{BufferLength, ListLength, NoHead, TrainCount, Period}
-use Rattle.rail.specs.declared.Refusal.the-variants.{TooShort, TooLong, Departure, Driving, SourceDelay, Slack}
-use Rattle.rail.specs.declared.Refusal.the-variants.{Passengers, Filling, NoSuchTrain, NewDelay, CellOverLimit}
+use Rattle.rail.specs.declared.Refusal.the-variants.{OfList, OfHead, OfTrain, Passengers, Filling, OfReport}
 use Rattle.rail.specs.declared.Verdict.{Verdict}
 use Rattle.rail.specs.declared.Verdict.the-variants.{Fine, Refused}
 use Rattle.rail.specs.Refusal.{numberOf}
-use Rattle.rail.specs.Verdict.{refuse_when_below_, refuse_unless_is_, _andThen_, firstOf, numberIn}
-use Rattle.rail.proofs.Checks.{refused-not-fine, refused-below, fine-not-below, refused-other, fine-same}
+use Rattle.rail.specs.Verdict.{Check, verdictOf, _andThen_, firstOf, numberIn}
+use Rattle.rail.proofs.Checks.{Passes, refusalOf, refused-not-fine, check-or-rest}
 
 module _ (P : Refusal → Type 0) where
   abbrev pub Only : Verdict → Type 0
@@ -28,20 +31,19 @@ module _ (P : Refusal → Type 0) where
   pub only-refused : (q : Refusal) → P q → Only (Refused q)
   only-refused q h r e = let same : q ≡ r = cc in rw same at h
 
-  -- a check that passes
-  pub only-passed : (q : Refusal) (a b : ℕ) → b ≤ a → Only (refuse q when a below b)
-  only-passed q a b l r e = only-fine r (sym (fine-not-below q a b l) ∙ e)
+  abbrev pub Each : List Check → Type 0
+  Each [] = Unit {0}
+  Each (c ∷ rest) = (Passes c ⊎ P (refusalOf c)) × Each rest
 
-  pub only-below : (q : Refusal) (a b : ℕ) → P q → Only (refuse q when a below b)
-  only-below q a b h r e = elim (lt-or-ge a b) [
-    | inl l ↦ only-refused q h r (refused-below q a b l ∙ e)
-    | inr l ↦ only-passed q a b l r e
-  ]
-
-  pub only-unless : (q : Refusal) (a b : ℕ) → P q → Only (refuse q unless a is b)
-  only-unless q a b h r e = elim (same-or-not a b) [
-    | inl s ↦ only-fine r (sym (fine-same q a b s) ∙ e)
-    | inr n ↦ only-refused q h r (refused-other q a b n ∙ e)
+  pub only-of : (checks : List Check) → Each checks → Only (verdictOf checks)
+  unfolding verdictOf
+  only-of [] each r e = only-fine r e
+  only-of (c ∷ rest) each r e = elim (check-or-rest c rest) [
+    | inl (fails, refused) ↦ elim (each .0) [
+      | inl passes ↦ absurd (fails passes)
+      | inr holds ↦ only-refused (refusalOf c) holds r (sym refused ∙ e)
+    ]
+    | inr (passes, same) ↦ only-of rest (each .1) r (sym same ∙ e)
   ]
 
   pub only-then : (v w : Verdict) → Only v → Only w → Only (v andThen w)
@@ -57,22 +59,22 @@ module _ (P : Refusal → Type 0) where
 -- ---- numbers
 
 number-not-zero : (r : Refusal) → numberOf r ≡ 0 → ⊥
-number-not-zero BufferLength e = omega arith
-number-not-zero ListLength e = omega arith
-number-not-zero NoHead e = omega arith
-number-not-zero TrainCount e = omega arith
-number-not-zero Period e = omega arith
-number-not-zero TooShort e = omega arith
-number-not-zero TooLong e = omega arith
-number-not-zero (Departure t) e = omega arith
-number-not-zero (Driving t) e = omega arith
-number-not-zero (SourceDelay t) e = omega arith
-number-not-zero (Slack t) e = omega arith
+number-not-zero (OfList BufferLength) e = omega arith
+number-not-zero (OfList ListLength) e = omega arith
+number-not-zero (OfHead NoHead) e = omega arith
+number-not-zero (OfHead TrainCount) e = omega arith
+number-not-zero (OfHead Period) e = omega arith
+number-not-zero (OfHead TooShort) e = omega arith
+number-not-zero (OfHead TooLong) e = omega arith
+number-not-zero (OfTrain t Departure) e = omega arith
+number-not-zero (OfTrain t Driving) e = omega arith
+number-not-zero (OfTrain t SourceDelay) e = omega arith
+number-not-zero (OfTrain t Slack) e = omega arith
 number-not-zero (Passengers f) e = omega arith
 number-not-zero Filling e = omega arith
-number-not-zero NoSuchTrain e = omega arith
-number-not-zero (NewDelay t) e = omega arith
-number-not-zero (CellOverLimit t) e = omega arith
+number-not-zero (OfReport NoSuchTrain) e = omega arith
+number-not-zero (OfReport (NewDelay t)) e = omega arith
+number-not-zero (OfReport (CellOverLimit t)) e = omega arith
 
 -- number 0 is that of no refusal
 pub zero-is-fine : (v : Verdict) → numberIn v ≡ 0 → v ≡ Fine

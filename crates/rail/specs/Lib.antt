@@ -1,2 +1,3 @@
 pub mod Refusal
 pub mod Verdict
+pub mod Answer

@@ -7,66 +7,51 @@
 use Prim.Native.Nat.{ℕ}
 use mathlib.Core.Bool.{Bool, true, false}
 use Rattle.rail.specs.declared.Train.{Train}
+use Rattle.rail.specs.declared.ListFault.the-variants.{BufferLength, ListLength}
+use Rattle.rail.specs.declared.HeadFault.the-variants.{NoHead, TrainCount, Period, TooShort, TooLong}
+use Rattle.rail.specs.declared.TrainFault.the-variants.{Departure, Driving, SourceDelay, Slack}
+use Rattle.rail.specs.declared.ReportFault.the-variants.{NoSuchTrain, NewDelay, CellOverLimit}
 use Rattle.rail.specs.declared.Refusal.{Refusal}
-use Rattle.rail.specs.declared.Refusal.the-variants.{BufferLength, ListLength, NoHead, TrainCount, Period}
-use Rattle.rail.specs.declared.Refusal.the-variants.{TooShort, TooLong, Departure, Driving, SourceDelay, Slack}
-use Rattle.rail.specs.declared.Refusal.the-variants.{Passengers, Filling, NoSuchTrain, NewDelay, CellOverLimit}
+use Rattle.rail.specs.declared.Refusal.the-variants.{OfList, OfHead, OfTrain, Passengers, Filling, OfReport}
 
 -- the train with this number
 abbrev pub train : ℕ → Train
 train i = record { 0 = i }
 
 abbrev pub numberOf : Refusal → ℕ
-numberOf BufferLength = 10
-numberOf ListLength = 10
-numberOf NoHead = 1
-numberOf TrainCount = 2
-numberOf Period = 3
-numberOf TooShort = 1
-numberOf TooLong = 4
-numberOf (Departure t) = 5
-numberOf (Driving t) = 13
-numberOf (SourceDelay t) = 6
-numberOf (Slack t) = 7
+numberOf (OfList BufferLength) = 10
+numberOf (OfList ListLength) = 10
+numberOf (OfHead NoHead) = 1
+numberOf (OfHead TrainCount) = 2
+numberOf (OfHead Period) = 3
+numberOf (OfHead TooShort) = 1
+numberOf (OfHead TooLong) = 4
+numberOf (OfTrain t Departure) = 5
+numberOf (OfTrain t Driving) = 13
+numberOf (OfTrain t SourceDelay) = 6
+numberOf (OfTrain t Slack) = 7
 numberOf (Passengers f) = 8
 numberOf Filling = 9
-numberOf NoSuchTrain = 11
-numberOf (NewDelay t) = 6
-numberOf (CellOverLimit t) = 12
+numberOf (OfReport NoSuchTrain) = 11
+numberOf (OfReport (NewDelay t)) = 6
+numberOf (OfReport (CellOverLimit t)) = 12
 
 abbrev pub placeOf : Refusal → ℕ
-placeOf BufferLength = 0
-placeOf ListLength = 0
-placeOf NoHead = 0
-placeOf TrainCount = 0
-placeOf Period = 0
-placeOf TooShort = 0
-placeOf TooLong = 0
-placeOf (Departure t) = t .0
-placeOf (Driving t) = t .0
-placeOf (SourceDelay t) = t .0
-placeOf (Slack t) = t .0
+placeOf (OfList x) = 0
+placeOf (OfHead x) = 0
+placeOf (OfTrain t x) = t .0
 placeOf (Passengers f) = f
 placeOf Filling = 0
-placeOf NoSuchTrain = 0
-placeOf (NewDelay t) = t .0
-placeOf (CellOverLimit t) = t .0
+placeOf (OfReport NoSuchTrain) = 0
+placeOf (OfReport (NewDelay t)) = t .0
+placeOf (OfReport (CellOverLimit t)) = t .0
 
 -- refusal 10 writes nothing, any other blanks
 abbrev pub blanksOf : Refusal → Bool
-blanksOf BufferLength = false
-blanksOf ListLength = false
-blanksOf NoHead = true
-blanksOf TrainCount = true
-blanksOf Period = true
-blanksOf TooShort = true
-blanksOf TooLong = true
-blanksOf (Departure t) = true
-blanksOf (Driving t) = true
-blanksOf (SourceDelay t) = true
-blanksOf (Slack t) = true
+blanksOf (OfList BufferLength) = false
+blanksOf (OfList ListLength) = false
+blanksOf (OfHead x) = true
+blanksOf (OfTrain t x) = true
 blanksOf (Passengers f) = true
 blanksOf Filling = true
-blanksOf NoSuchTrain = true
-blanksOf (NewDelay t) = true
-blanksOf (CellOverLimit t) = true
+blanksOf (OfReport x) = true

@@ -1,8 +1,9 @@
-// The vocabulary of the line: trains and stations, numbered apart, and the refusals by name.
-// No other crate knows the number or the place that document 01 gives to a refusal.
+// The vocabulary: trains and stations, numbered apart; the refusals by name; what a check finds and
+// what an operation answers. No other crate knows the number or the place of a refusal.
 ghost use mathlib.Core.Path.{_≡_};
 ghost use Prim.Native.Nat.{_+_, _-_, _≤_};
 ghost use Rattle.rail.specs.Refusal.{numberOf, placeOf, blanksOf};
+ghost use Rattle.rail.specs.Answer.{answerNumber, answerPlace, answerCarries};
 
 // Train i leaves station i and reaches station i + 1.
 pub struct Train(pub u32);
@@ -51,12 +52,16 @@ impl Station {
     }
 }
 
-// Why an input is refused. The place, where there is one, is a train or a passenger field from 1.
-pub enum Refusal {
-    // a lent buffer has another length than stated
+// What is wrong with a lent list.
+pub enum ListFault {
+    // a buffer has another length than stated
     BufferLength,
     // in write, a list has another length than the line's trains demand
     ListLength,
+}
+
+// What is wrong with m, T or the length of a sheet.
+pub enum HeadFault {
     // a sheet under 3 bytes: too short for m and T
     NoHead,
     // m is 0 or over 64
@@ -67,25 +72,42 @@ pub enum Refusal {
     TooShort,
     // a sheet longer than m demands
     TooLong,
+}
+
+// What is wrong with the numbers of a train.
+pub enum TrainFault {
     // departure over 2,879
-    Departure(Train),
+    Departure,
     // driving time over 1,023
-    Driving(Train),
+    Driving,
     // source delay over 1,440
-    SourceDelay(Train),
+    SourceDelay,
     // slack under 0
-    Slack(Train),
-    // passengers over 10,000
+    Slack,
+}
+
+// What is wrong with a report or with the cells that it finds.
+pub enum ReportFault {
+    // train is 0 or over m
+    NoSuchTrain,
+    // new delay over 1,440
+    NewDelay(Train),
+    // a cell in use in a row after the train is over the limit; the train is the one that the row's
+    // run begins with
+    CellOverLimit(Train),
+}
+
+// Why an input is refused: a fault and, where it has one, its place. In groups, because an enum of
+// many variants is past what is proved unaided.
+pub enum Refusal {
+    OfList(ListFault),
+    OfHead(HeadFault),
+    OfTrain(Train, TrainFault),
+    // passengers over 10,000 in this field, from 1
     Passengers(u32),
     // a filling bit is 1
     Filling,
-    // report: train is 0 or over m
-    NoSuchTrain,
-    // report: new delay over 1,440
-    NewDelay(Train),
-    // report: a cell in use in a row after the train is over the limit; the place is the train that
-    // the row's run begins with
-    CellOverLimit(Train),
+    OfReport(ReportFault),
 }
 
 impl Refusal {
@@ -93,22 +115,30 @@ impl Refusal {
         ensures { λ r. ⌜ r ≡ numberOf self ⌝ }
     {
         match self {
-            Refusal::NoHead => 1,
-            Refusal::TooShort => 1,
-            Refusal::TrainCount => 2,
-            Refusal::Period => 3,
-            Refusal::TooLong => 4,
-            Refusal::Departure(_) => 5,
-            Refusal::SourceDelay(_) => 6,
-            Refusal::NewDelay(_) => 6,
-            Refusal::Slack(_) => 7,
+            Refusal::OfList(fault) => match fault {
+                ListFault::BufferLength => 10,
+                ListFault::ListLength => 10,
+            },
+            Refusal::OfHead(fault) => match fault {
+                HeadFault::NoHead => 1,
+                HeadFault::TrainCount => 2,
+                HeadFault::Period => 3,
+                HeadFault::TooShort => 1,
+                HeadFault::TooLong => 4,
+            },
+            Refusal::OfTrain(_, fault) => match fault {
+                TrainFault::Departure => 5,
+                TrainFault::Driving => 13,
+                TrainFault::SourceDelay => 6,
+                TrainFault::Slack => 7,
+            },
             Refusal::Passengers(_) => 8,
             Refusal::Filling => 9,
-            Refusal::BufferLength => 10,
-            Refusal::ListLength => 10,
-            Refusal::NoSuchTrain => 11,
-            Refusal::CellOverLimit(_) => 12,
-            Refusal::Driving(_) => 13,
+            Refusal::OfReport(fault) => match fault {
+                ReportFault::NoSuchTrain => 11,
+                ReportFault::NewDelay(_) => 6,
+                ReportFault::CellOverLimit(_) => 12,
+            },
         }
     }
 
@@ -116,22 +146,16 @@ impl Refusal {
         ensures { λ r. ⌜ r ≡ placeOf self ⌝ }
     {
         match self {
-            Refusal::Departure(train) => train.0,
-            Refusal::Driving(train) => train.0,
-            Refusal::SourceDelay(train) => train.0,
-            Refusal::Slack(train) => train.0,
-            Refusal::NewDelay(train) => train.0,
-            Refusal::CellOverLimit(first) => first.0,
+            Refusal::OfList(_) => 0,
+            Refusal::OfHead(_) => 0,
+            Refusal::OfTrain(train, _) => train.0,
             Refusal::Passengers(field) => field,
-            Refusal::BufferLength => 0,
-            Refusal::ListLength => 0,
-            Refusal::NoHead => 0,
-            Refusal::TrainCount => 0,
-            Refusal::Period => 0,
-            Refusal::TooShort => 0,
-            Refusal::TooLong => 0,
             Refusal::Filling => 0,
-            Refusal::NoSuchTrain => 0,
+            Refusal::OfReport(fault) => match fault {
+                ReportFault::NoSuchTrain => 0,
+                ReportFault::NewDelay(train) => train.0,
+                ReportFault::CellOverLimit(first) => first.0,
+            },
         }
     }
 
@@ -140,22 +164,15 @@ impl Refusal {
         ensures { λ r. ⌜ r ≡ blanksOf self ⌝ }
     {
         match self {
-            Refusal::BufferLength => false,
-            Refusal::ListLength => false,
-            Refusal::NoHead => true,
-            Refusal::TrainCount => true,
-            Refusal::Period => true,
-            Refusal::TooShort => true,
-            Refusal::TooLong => true,
-            Refusal::Departure(_) => true,
-            Refusal::Driving(_) => true,
-            Refusal::SourceDelay(_) => true,
-            Refusal::Slack(_) => true,
+            Refusal::OfList(fault) => match fault {
+                ListFault::BufferLength => false,
+                ListFault::ListLength => false,
+            },
+            Refusal::OfHead(_) => true,
+            Refusal::OfTrain(_, _) => true,
             Refusal::Passengers(_) => true,
             Refusal::Filling => true,
-            Refusal::NoSuchTrain => true,
-            Refusal::NewDelay(_) => true,
-            Refusal::CellOverLimit(_) => true,
+            Refusal::OfReport(_) => true,
         }
     }
 }
@@ -164,4 +181,42 @@ impl Refusal {
 pub enum Verdict {
     Fine,
     Refused(Refusal),
+}
+
+// What write, plan and report answer: the one number that an accepted call brings, or why not.
+pub enum Answer {
+    Accepted(u64),
+    Refused(Refusal),
+}
+
+impl Answer {
+    // The number of the refusal, 0 where accepted.
+    pub fn number(self) -> u32
+        ensures { λ r. ⌜ r ≡ answerNumber self ⌝ }
+    {
+        match self {
+            Answer::Accepted(_) => 0,
+            Answer::Refused(refusal) => refusal.number(),
+        }
+    }
+
+    // The place of the refusal, 0 where accepted or where it has none.
+    pub fn place(self) -> u32
+        ensures { λ r. ⌜ r ≡ answerPlace self ⌝ }
+    {
+        match self {
+            Answer::Accepted(_) => 0,
+            Answer::Refused(refusal) => refusal.place(),
+        }
+    }
+
+    // The total, or in write the length of the sheet; 0 where refused.
+    pub fn carries(self) -> u64
+        ensures { λ r. ⌜ r ≡ answerCarries self ⌝ }
+    {
+        match self {
+            Answer::Accepted(number) => number,
+            Answer::Refused(_) => 0,
+        }
+    }
 }
