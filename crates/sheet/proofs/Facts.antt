@@ -3,15 +3,16 @@
 use mathlib.Core.Path.{_≡_, refl}
 use mathlib.Core.List.{List}
 use Prim.Native.Nat.{ℕ, _≤_, zero-le}
+use borrow.Author.Needs.{needs}
 use native.Mathlib.Omega.{arith}
 use lib.ListN.{length}
 use Rattle.rail.specs.declared.Refusal.{Refusal}
 use Rattle.rail.specs.declared.Verdict.the-variants.{Fine}
-use Rattle.rail.proofs.Checks.{then-fine, fine-then, not-below, fine-not-below, is-same, fine-same, first-fine}
-use Rattle.rail.proofs.Checks.{fine-first}
+use Rattle.rail.proofs.Checks.{then-fine, fine-then, passed-of-fine, fine-of-passed, first-fine, fine-first}
 use Rattle.sheet.specs.Format.{trainsOf, periodOf, bytesOf}
 use Rattle.sheet.specs.Numbers.{Times, Numbers, Lists, numbersOf}
-use Rattle.sheet.specs.Checks.{lengthsVerdict, rangesVerdict, trainVerdict, passengersVerdict, numbersVerdict}
+use Rattle.sheet.specs.Checks.{lengthsVerdict, rangesVerdict, trainChecks, trainVerdict, passengersVerdict}
+use Rattle.sheet.specs.Checks.{numbersVerdict}
 use Rattle.sheet.specs.Checks.{headVerdict, fillingVerdict, bodyVerdict, sheetVerdict}
 use Rattle.sheet.specs.Accepted.{Lengths, TrainInRange, InRange, AcceptedSheet}
 use Rattle.sheet.proofs.Lengths.{layout, bytes-bits}
@@ -20,26 +21,11 @@ use Rattle.sheet.proofs.Lengths.{layout, bytes-bits}
 
 pub lengths-of-fine : (r : Refusal) (n k : ℕ) (L : Lists) → lengthsVerdict r n k L ≡ Fine → Lengths n k L
 unfolding lengthsVerdict
-lengths-of-fine r n k L e =
-    let a = then-fine _ _ e in
-    let b = then-fine _ _ (a .1) in
-    let c = then-fine _ _ (b .1) in
-    let d = then-fine _ _ (c .1) in
-    record {
-      departures = is-same _ _ _ (a .0);
-      driving = is-same _ _ _ (b .0);
-      delays = is-same _ _ _ (c .0);
-      passengers = is-same _ _ _ (d .0);
-    }
+lengths-of-fine r n k L e = let passed = passed-of-fine _ e in search needs
 
 pub fine-of-lengths : (r : Refusal) (n k : ℕ) (L : Lists) → Lengths n k L → lengthsVerdict r n k L ≡ Fine
 unfolding lengthsVerdict
-fine-of-lengths r n k L h =
-    fine-then (fine-same _ _ _ (h .departures))
-    (fine-then (fine-same _ _ _ (h .driving))
-    (fine-then (fine-same _ _ _ (h .delays))
-    (fine-then (fine-same _ _ _ (h .passengers))
-    refl)))
+fine-of-lengths r n k L h = fine-of-passed _ (search needs)
 
 -- ---- the numbers
 
@@ -51,57 +37,27 @@ pub record Ranges (m T : ℕ) : Type 0 where
 
 pub ranges-of-fine : (m T : ℕ) → rangesVerdict m T ≡ Fine → Ranges m T
 unfolding rangesVerdict
-ranges-of-fine m T e =
-    let a = then-fine _ _ e in
-    let b = then-fine _ _ (a .1) in
-    let c = then-fine _ _ (b .1) in
-    let d = then-fine _ _ (c .1) in
-    record {
-      trains-least = not-below _ _ _ (a .0);
-      trains-most = not-below _ _ _ (b .0);
-      period-least = not-below _ _ _ (c .0);
-      period-most = not-below _ _ _ (d .0);
-    }
+ranges-of-fine m T e = let passed = passed-of-fine _ e in search needs
 
 pub fine-of-ranges : (m T : ℕ) → Ranges m T → rangesVerdict m T ≡ Fine
 unfolding rangesVerdict
-fine-of-ranges m T r =
-    fine-then (fine-not-below _ _ _ (r .trains-least))
-    (fine-then (fine-not-below _ _ _ (r .trains-most))
-    (fine-then (fine-not-below _ _ _ (r .period-least))
-    (fine-then (fine-not-below _ _ _ (r .period-most))
-    refl)))
+fine-of-ranges m T h = fine-of-passed _ (search needs)
 
 train-of-fine : (x : Times) (i : ℕ) → trainVerdict x i ≡ Fine → TrainInRange x i
-unfolding trainVerdict
-train-of-fine x i e =
-    let a = then-fine _ _ e in
-    let b = then-fine _ _ (a .1) in
-    let c = then-fine _ _ (b .1) in
-    let d = then-fine _ _ (c .1) in
-    record {
-      departure = not-below _ _ _ (a .0);
-      driving = not-below _ _ _ (b .0);
-      delay = not-below _ _ _ (c .0);
-      slack = not-below _ _ _ (d .0);
-    }
+unfolding trainVerdict trainChecks
+train-of-fine x i e = let passed = passed-of-fine _ e in search needs
 
 fine-of-train : (x : Times) (i : ℕ) → TrainInRange x i → trainVerdict x i ≡ Fine
-unfolding trainVerdict
-fine-of-train x i r =
-    fine-then (fine-not-below _ _ _ (r .departure))
-    (fine-then (fine-not-below _ _ _ (r .driving))
-    (fine-then (fine-not-below _ _ _ (r .delay))
-    (fine-then (fine-not-below _ _ _ (r .slack))
-    refl)))
+unfolding trainVerdict trainChecks
+fine-of-train x i h = fine-of-passed _ (search needs)
 
 passengers-of-fine : (p : ℕ → ℕ) (f : ℕ) → passengersVerdict p f ≡ Fine → p f ≤ 10000
 unfolding passengersVerdict
-passengers-of-fine p f e = not-below _ _ _ (then-fine _ _ e .0)
+passengers-of-fine p f e = passed-of-fine _ e .0
 
 fine-of-passengers : (p : ℕ → ℕ) (f : ℕ) → p f ≤ 10000 → passengersVerdict p f ≡ Fine
 unfolding passengersVerdict
-fine-of-passengers p f l = fine-then (fine-not-below _ _ _ l) refl
+fine-of-passengers p f l = fine-of-passed _ (search needs)
 
 module _ (N : Numbers) where
   pub in-range-of-fine : Ranges (N .trains) (N .period) → numbersVerdict (N .trains) (N .times) (N .passengers) ≡ Fine
@@ -145,23 +101,18 @@ unfolding headVerdict
 headed-of-fine s e =
     let a = then-fine _ _ e in
     let b = then-fine _ _ (a .1) in
-    let c = then-fine _ _ (b .1) in
-    let d = then-fine _ _ (c .1) in
+    let long = passed-of-fine _ (b .1) in
     record {
-      room = not-below _ _ _ (a .0);
+      room = passed-of-fine _ (a .0) .0;
       ranges = ranges-of-fine _ _ (b .0);
-      long = omega (arith, not-below _ _ _ (c .0), not-below _ _ _ (d .0));
+      long = omega arith;
     }
 
 fine-of-headed : (s : List ℕ) → Headed s → headVerdict s ≡ Fine
 unfolding headVerdict
 fine-of-headed s h =
-    let l = h .long in
-    fine-then (fine-not-below _ _ _ (h .room))
-    (fine-then (fine-of-ranges _ _ (h .ranges))
-    (fine-then (fine-not-below _ _ _ (omega arith))
-    (fine-then (fine-not-below _ _ _ (omega arith))
-    refl)))
+    fine-then (fine-of-passed _ (search needs))
+    (fine-then (fine-of-ranges _ _ (h .ranges)) (fine-of-passed _ (search needs)))
 
 -- accepted exactly when the chain of checks finds nothing
 pub accepted-of-fine : (s : List ℕ) → sheetVerdict s ≡ Fine → AcceptedSheet s
@@ -169,12 +120,12 @@ unfolding sheetVerdict bodyVerdict fillingVerdict
 accepted-of-fine s e =
     let a = then-fine _ _ e in
     let b = then-fine _ _ (a .1) in
-    let c = then-fine _ _ (b .1) in
     let h = headed-of-fine s (a .0) in
+    let none = passed-of-fine _ (b .1) in
     record {
       long = h .long;
       numbers = in-range-of-fine (numbersOf s) (h .ranges) (b .0);
-      filling = omega (arith, not-below _ _ _ (c .0));
+      filling = omega arith;
     }
 
 pub fine-of-accepted : (s : List ℕ) → AcceptedSheet s → sheetVerdict s ≡ Fine
@@ -189,6 +140,4 @@ fine-of-accepted s h =
       ranges = ranges-of-in-range (numbersOf s) (h .numbers);
       long = l;
     }))
-    (fine-then (fine-of-in-range (numbersOf s) (h .numbers))
-    (fine-then (fine-not-below _ _ _ (rw (h .filling) zero-le))
-    refl))
+    (fine-then (fine-of-in-range (numbersOf s) (h .numbers)) (fine-of-passed _ (rw (h .filling) zero-le, tt)))

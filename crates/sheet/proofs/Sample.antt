@@ -7,13 +7,13 @@ use native.Mathlib.Omega.{arith}
 use Rattle.lists.specs.Choice.{ifBelow}
 use Rattle.lists.specs.Run.{runOf}
 use Rattle.rail.specs.declared.Verdict.the-variants.{Fine}
-use Rattle.rail.specs.Verdict.{refuse_when_below_, _andThen_, firstOf}
+use Rattle.rail.specs.Verdict.{verdictOf, _andThen_, firstOf}
 use Rattle.bits.specs.Field.{bitAt, fieldOf}
 use Rattle.bits.proofs.Bytes.{bytes-tested}
 use Rattle.sheet.specs.Format.{entry, bitsOf, bytesOf, pairsOf}
 use Rattle.sheet.specs.Numbers.{numbersOf}
-use Rattle.sheet.specs.Checks.{rangesVerdict, earliestOf, trainVerdict, passengersVerdict, numbersVerdict}
-use Rattle.sheet.specs.Checks.{headVerdict, fillingVerdict, bodyVerdict, sheetVerdict}
+use Rattle.sheet.specs.Checks.{rangesVerdict, earliestOf, trainChecks, trainVerdict, passengersVerdict}
+use Rattle.sheet.specs.Checks.{numbersVerdict, headVerdict, fillingVerdict, bodyVerdict, sheetVerdict}
 use Rattle.sheet.specs.Accepted.{SheetOf}
 use Rattle.sheet.specs.SheetA.{numbersA, sheetA}
 
@@ -39,8 +39,8 @@ sheet-a =
     }
 
 pub sheet-a-accepted : sheetVerdict sheetA ≡ Fine
-unfolding sheetVerdict headVerdict rangesVerdict bodyVerdict numbersVerdict trainVerdict earliestOf passengersVerdict
-    fillingVerdict refuse_when_below_ _andThen_ firstOf runOf ifBelow bitAt fieldOf entry bitsOf bytesOf pairsOf
+unfolding sheetVerdict headVerdict rangesVerdict bodyVerdict numbersVerdict trainVerdict trainChecks earliestOf
+    passengersVerdict fillingVerdict verdictOf _andThen_ firstOf runOf ifBelow bitAt fieldOf entry bitsOf bytesOf pairsOf
 sheet-a-accepted = refl
 
 -- 9 bytes for m = 1, 26 for m = 3, 3,907 for m = 64

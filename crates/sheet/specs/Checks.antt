@@ -2,7 +2,8 @@
 --   lengthsVerdict why n k L     refused for why where the lists have other lengths than n, n, n and k
 --   rangesVerdict m T            2 and 3
 --   earliestOf departure driving i     the earliest minute at which train i may leave
---   trainVerdict x i             5, 13, 6, 7 for train i; on a sheet it is never 13 (proofs/Refusals)
+--   trainChecks i departure driving delay earliest     5, 13, 6, 7 for train i with these times
+--   trainVerdict x i             the same with the times x; on a sheet it is never 13 (proofs/Refusals)
 --   passengersVerdict p f        8 for passenger field f
 --   numbersVerdict m x p         train by train, then field by field
 --   headVerdict s                1, 2, 3, then 1 or 4
@@ -10,36 +11,38 @@
 --   sheetVerdict s               all checks of a sheet
 -- Assumes nothing.
 use Prim.Native.Nat.{ℕ, _+_, _-_, _≤_}
-use mathlib.Core.List.{List}
+use mathlib.Core.List.{List, [], _∷_}
 use lib.ListN.{length}
 use Rattle.lists.specs.Choice.{ifBelow}
+use Rattle.rail.specs.declared.HeadFault.the-variants.{NoHead, TrainCount, Period, TooShort, TooLong}
+use Rattle.rail.specs.declared.TrainFault.the-variants.{Departure, Driving, SourceDelay, Slack}
 use Rattle.rail.specs.declared.Refusal.{Refusal}
-use Rattle.rail.specs.declared.Refusal.the-variants.{NoHead, TrainCount, Period, TooShort, TooLong, Departure, Driving}
-use Rattle.rail.specs.declared.Refusal.the-variants.{SourceDelay, Slack, Passengers, Filling}
+use Rattle.rail.specs.declared.Refusal.the-variants.{OfHead, OfTrain, Passengers, Filling}
 use Rattle.rail.specs.declared.Verdict.{Verdict}
-use Rattle.rail.specs.declared.Verdict.the-variants.{Fine}
 use Rattle.rail.specs.Refusal.{train}
-use Rattle.rail.specs.Verdict.{refuse_when_below_, refuse_unless_is_, _andThen_, firstOf}
+use Rattle.rail.specs.Verdict.{Check, refuse_when_below_, refuse_unless_is_, verdictOf, _andThen_, firstOf}
 use Rattle.sheet.specs.Format.{trainsOf, periodOf, passengersOf, pairsOf, bytesOf, fillingOf}
 use Rattle.sheet.specs.Numbers.{Times, Lists, timesOf}
 
 -- three lists of n numbers, one of k
 unfoldable pub lengthsVerdict : Refusal → ℕ → ℕ → Lists → Verdict
 lengthsVerdict why n k L =
+    verdictOf (
     (refuse why unless length (L .departures) is n)
-    andThen (refuse why unless length (L .driving) is n)
-    andThen (refuse why unless length (L .delays) is n)
-    andThen (refuse why unless length (L .passengers) is k)
-    andThen Fine
+    ∷ (refuse why unless length (L .driving) is n)
+    ∷ (refuse why unless length (L .delays) is n)
+    ∷ (refuse why unless length (L .passengers) is k)
+    ∷ [])
 
 -- m is 0 or over 64; T is 0 or over 1,440
 unfoldable pub rangesVerdict : ℕ → ℕ → Verdict
 rangesVerdict m T =
-    (refuse TrainCount when m below 1)
-    andThen (refuse TrainCount when 64 below m)
-    andThen (refuse Period when T below 1)
-    andThen (refuse Period when 1440 below T)
-    andThen Fine
+    verdictOf (
+    (refuse (OfHead TrainCount) when m below 1)
+    ∷ (refuse (OfHead TrainCount) when 64 below m)
+    ∷ (refuse (OfHead Period) when T below 1)
+    ∷ (refuse (OfHead Period) when 1440 below T)
+    ∷ [])
 
 -- the earliest minute at which train i may leave: when the train before it is planned to arrive, that is its departure
 -- and its driving time; for train 1 it is 0. The slack at station i is the departure of train i less this, so that it
@@ -48,17 +51,22 @@ unfoldable pub earliestOf : (ℕ → ℕ) → (ℕ → ℕ) → ℕ → ℕ
 earliestOf departure driving i = ifBelow 1 i (departure (i - 1) + driving (i - 1)) 0
 
 -- departure over 2,879; driving time over 1,023; source delay over 1,440; slack under 0
+unfoldable pub trainChecks : ℕ → ℕ → ℕ → ℕ → ℕ → List Check
+trainChecks i departure driving delay earliest =
+    (refuse (OfTrain (train i) Departure) when 2879 below departure)
+    ∷ (refuse (OfTrain (train i) Driving) when 1023 below driving)
+    ∷ (refuse (OfTrain (train i) SourceDelay) when 1440 below delay)
+    ∷ (refuse (OfTrain (train i) Slack) when departure below earliest)
+    ∷ []
+
 unfoldable pub trainVerdict : Times → ℕ → Verdict
 trainVerdict x i =
-    (refuse (Departure (train i)) when 2879 below x .departure i)
-    andThen (refuse (Driving (train i)) when 1023 below x .driving i)
-    andThen (refuse (SourceDelay (train i)) when 1440 below x .delay i)
-    andThen (refuse (Slack (train i)) when x .departure i below earliestOf (x .departure) (x .driving) i)
-    andThen Fine
+    verdictOf
+    (trainChecks i (x .departure i) (x .driving i) (x .delay i) (earliestOf (x .departure) (x .driving) i))
 
 -- passengers over 10,000
 unfoldable pub passengersVerdict : (ℕ → ℕ) → ℕ → Verdict
-passengersVerdict p f = (refuse (Passengers f) when 10000 below p f) andThen Fine
+passengersVerdict p f = verdictOf ((refuse (Passengers f) when 10000 below p f) ∷ [])
 
 unfoldable pub numbersVerdict : ℕ → Times → (ℕ → ℕ) → Verdict
 numbersVerdict m x p = firstOf (trainVerdict x) 1 m andThen firstOf (passengersVerdict p) 1 (pairsOf m)
@@ -66,15 +74,16 @@ numbersVerdict m x p = firstOf (trainVerdict x) 1 m andThen firstOf (passengersV
 -- sheet under 3 bytes; m; T; sheet shorter, longer than m demands
 unfoldable pub headVerdict : List ℕ → Verdict
 headVerdict s =
-    (refuse NoHead when length s below 3)
+    verdictOf ((refuse (OfHead NoHead) when length s below 3) ∷ [])
     andThen rangesVerdict (trainsOf s) (periodOf s)
-    andThen (refuse TooShort when length s below bytesOf (trainsOf s))
-    andThen (refuse TooLong when bytesOf (trainsOf s) below length s)
-    andThen Fine
+    andThen verdictOf (
+    (refuse (OfHead TooShort) when length s below bytesOf (trainsOf s))
+    ∷ (refuse (OfHead TooLong) when bytesOf (trainsOf s) below length s)
+    ∷ [])
 
 -- a filling bit is 1
 unfoldable pub fillingVerdict : List ℕ → Verdict
-fillingVerdict s = (refuse Filling when 0 below fillingOf s) andThen Fine
+fillingVerdict s = verdictOf ((refuse Filling when 0 below fillingOf s) ∷ [])
 
 -- the numbers, then the filling bits
 unfoldable pub bodyVerdict : List ℕ → Verdict

@@ -4,13 +4,16 @@ ghost use mathlib.Core.Path.{_≡_};
 ghost use Prim.Native.Nat.{_≤_};
 ghost use lib.ListN.{length};
 ghost use Rattle.lists.specs.Run.{nth};
-ghost use Rattle.rail.specs.Verdict.{firstOf};
+ghost use Rattle.rail.specs.Verdict.{verdictOf, firstOf};
 ghost use Rattle.sheet.specs.Numbers.{lists, timesIn};
-ghost use Rattle.sheet.specs.Checks.{lengthsVerdict, rangesVerdict, earliestOf, trainVerdict};
-ghost use Rattle.sheet.specs.Checks.{passengersVerdict, numbersVerdict, TrainRoom, Room};
+ghost use Rattle.sheet.specs.Checks.{lengthsVerdict, rangesVerdict, earliestOf, trainChecks};
+ghost use Rattle.sheet.specs.Checks.{trainVerdict, passengersVerdict, numbersVerdict};
+ghost use Rattle.sheet.specs.Checks.{TrainRoom, Room};
 use crate::format::pairs_of;
+use rail::HeadFault;
 use rail::Refusal;
 use rail::Train;
+use rail::TrainFault;
 use rail::Verdict;
 
 // The lengths of four lists: `n` for each of the trains' three, `k` for the passengers'.
@@ -48,16 +51,16 @@ pub fn check_ranges(m: u32, period: u32) -> Verdict
     ensures { λ r. ⌜ r ≡ rangesVerdict m period ⌝ }
 {
     if m < 1 {
-        return Verdict::Refused(Refusal::TrainCount);
+        return Verdict::Refused(Refusal::OfHead(HeadFault::TrainCount));
     }
     if 64 < m {
-        return Verdict::Refused(Refusal::TrainCount);
+        return Verdict::Refused(Refusal::OfHead(HeadFault::TrainCount));
     }
     if period < 1 {
-        return Verdict::Refused(Refusal::Period);
+        return Verdict::Refused(Refusal::OfHead(HeadFault::Period));
     }
     if 1440 < period {
-        return Verdict::Refused(Refusal::Period);
+        return Verdict::Refused(Refusal::OfHead(HeadFault::Period));
     }
     Verdict::Fine
 }
@@ -77,7 +80,26 @@ fn earliest(train: Train, departures: &[u32], driving: &[u32]) -> u64
     }
 }
 
-// One train: departure, driving time, source delay, slack.
+// The times of one train: departure, driving time, source delay, slack.
+fn check_times(train: Train, departure: u64, driving: u32, delay: u32, earliest: u64) -> Verdict
+    ensures { λ r. ⌜ r ≡ verdictOf (trainChecks (train .0) departure driving delay earliest) ⌝ }
+{
+    if 2879 < departure {
+        return Verdict::Refused(Refusal::OfTrain(train, TrainFault::Departure));
+    }
+    if 1023 < driving {
+        return Verdict::Refused(Refusal::OfTrain(train, TrainFault::Driving));
+    }
+    if 1440 < delay {
+        return Verdict::Refused(Refusal::OfTrain(train, TrainFault::SourceDelay));
+    }
+    if departure < earliest {
+        return Verdict::Refused(Refusal::OfTrain(train, TrainFault::Slack));
+    }
+    Verdict::Fine
+}
+
+// One train of the lists.
 fn check_train(train: Train, departures: &[u32], driving: &[u32], delays: &[u32]) -> Verdict
     requires { ⌜ TrainRoom (train .0) (now departures) (now driving) (now delays) ⌝ }
     ensures { λ r. ⌜ r ≡ trainVerdict
@@ -85,20 +107,9 @@ fn check_train(train: Train, departures: &[u32], driving: &[u32], delays: &[u32]
         (train .0) ⌝ }
 {
     let k = train.index();
-    if 2879 < departures[k] {
-        return Verdict::Refused(Refusal::Departure(train));
-    }
-    if 1023 < driving[k] {
-        return Verdict::Refused(Refusal::Driving(train));
-    }
-    if 1440 < delays[k] {
-        return Verdict::Refused(Refusal::SourceDelay(train));
-    }
     let departure = departures[k] as u64;
-    if departure < earliest(train, departures, driving) {
-        return Verdict::Refused(Refusal::Slack(train));
-    }
-    Verdict::Fine
+    let earliest = earliest(train, departures, driving);
+    check_times(train, departure, driving[k], delays[k], earliest)
 }
 
 // Trains 1 to `m`, one after the other.

@@ -27,20 +27,11 @@ returns : tie.Need-returns
 unfolding writeVerdict
 returns c = unlike _ _ _ _ (omega arith)
 
-check-ranges-requires : tie.Need-check-ranges-requires
-check-ranges-requires c κs = search needs
-
-enum-told : tie.Need-enum-told
-enum-told c = search needs
-
 -- m or T is refused
 returns-2 : tie.Need-returns-2
 unfolding writeVerdict
 returns-2 c =
     alike _ _ _ _ _ (omega arith) (then-stop _ _ (c .enum-told .given .1) (c .before .before .check-ranges .ensures))
-
-enum-told-2 : tie.Need-enum-told-2
-enum-told-2 c = search needs
 
 -- m and T passed
 right-ranges : (c : tie.After-enum-told2) →
@@ -49,12 +40,6 @@ right-ranges c = sym (c .before .before .check-ranges .ensures) ∙ c .enum-told
 
 pairs-of-requires : tie.Need-pairs-of-requires
 pairs-of-requires c κs = ranges-of-fine _ _ (right-ranges c) .trains-most
-
-check-lengths-requires : tie.Need-check-lengths-requires
-check-lengths-requires c κs = search needs
-
-enum-told-3 : tie.Need-enum-told-3
-enum-told-3 c = search needs
 
 -- what the lengths are compared with
 lengths-are : (c : tie.After-check-lengths) →
@@ -75,9 +60,6 @@ returns-3 c =
     alike _ _ _ _ _ (omega arith)
     (then-pass _ _ _ (right-ranges (checked .before .before))
     (then-stop _ _ (c .enum-told3 .given .1) (lengths-are checked)))
-
-enum-told-4 : tie.Need-enum-told-4
-enum-told-4 c = search needs
 
 -- the lists have the lengths that m demands
 check-numbers-requires : tie.Need-check-numbers-requires
@@ -100,16 +82,5 @@ returns-4 c =
 pub check-write-spec : {M : Type 1} → statement M
 check-write-spec =
     tie.close
-    (tie.spec
-    returns
-    check-ranges-requires
-    enum-told
-    returns-2
-    enum-told-2
-    pairs-of-requires
-    check-lengths-requires
-    enum-told-3
-    returns-3
-    enum-told-4
-    check-numbers-requires
-    returns-4)
+    (tie.spec returns (λ c κs. search needs) (λ c. search needs) returns-2 (λ c. search needs) pairs-of-requires
+    (λ c κs. search needs) (λ c. search needs) returns-3 (λ c. search needs) check-numbers-requires returns-4)

@@ -15,12 +15,6 @@ use Rattle.writer.proofs.Outcome.{write-refused, write-accepted}
 use Rattle.writer.proofs.write.Statement.{statement}
 use Rattle.writer.proofs.write.Tie as tie
 
-check-write-requires : tie.Need-check-write-requires
-check-write-requires c κs = search needs
-
-enum-known-verdict : tie.Need-enum-known-verdict
-enum-known-verdict c = search needs
-
 -- from where all is checked back to the entry, and what was given there
 abbrev entry-of : tie.After-check-write → tie.Start
 entry-of c = c .before .before .before .before .before .before
@@ -33,9 +27,6 @@ given-at c =
 -- refused
 returns : tie.Need-returns
 returns c = write-refused _ _ (sym (c .before .verdict .given .1) ∙ c .before .before .before .check-write .ensures)
-
-enum-told : tie.Need-enum-told
-enum-told c = search needs
 
 -- all checks passed
 fine : (c : tie.After-enum-told) →
@@ -68,9 +59,6 @@ put-sheet-requires c κs =
       range = accepts .range;
     }
 
-same-length : tie.Need-same-length
-same-length c = search needs
-
 -- accepted: the sheet stands first, the rest as it was
 returns-2 : tie.Need-returns-2
 returns-2 c =
@@ -80,14 +68,5 @@ returns-2 c =
 pub write-spec : {M : Type 1} → statement M
 write-spec =
     tie.close
-    (tie.spec
-    check-write-requires
-    enum-known-verdict
-    returns
-    enum-told
-    bytes-of-requires
-    slice-relend-prefix-put-sheet
-    slice-aggregate-put-sheet
-    put-sheet-requires
-    same-length
-    returns-2)
+    (tie.spec (λ c κs. search needs) (λ c. search needs) returns (λ c. search needs) bytes-of-requires
+    slice-relend-prefix-put-sheet slice-aggregate-put-sheet put-sheet-requires (λ c. search needs) returns-2)

@@ -10,22 +10,10 @@ use Rattle.sheet.proofs.Lengths.{pairs-le}
 use Rattle.sheet.proofs.checks.check_numbers.Statement.{statement}
 use Rattle.sheet.proofs.checks.check_numbers.Tie as tie
 
-check-trains-requires : tie.Need-check-trains-requires
-check-trains-requires c κs = search needs
-
-enum-told : tie.Need-enum-told
-enum-told c = search needs
-
 -- a train is refused
 returns : tie.Need-returns
 unfolding numbersVerdict
 returns c = then-stop _ _ (c .enum-told .given .1) (c .before .before .check-trains .ensures)
-
-enum-told-2 : tie.Need-enum-told-2
-enum-told-2 c = search needs
-
-pairs-of-requires : tie.Need-pairs-of-requires
-pairs-of-requires c κs = search needs
 
 -- the list has room for the fields of m trains
 check-passengers-requires : tie.Need-check-passengers-requires
@@ -45,11 +33,5 @@ returns-2 c =
 pub check-numbers-spec : {M : Type 1} → statement M
 check-numbers-spec =
     tie.close
-    (tie.spec
-    check-trains-requires
-    enum-told
-    returns
-    enum-told-2
-    pairs-of-requires
-    check-passengers-requires
-    returns-2)
+    (tie.spec (λ c κs. search needs) (λ c. search needs) returns (λ c. search needs) (λ c κs. search needs)
+    check-passengers-requires returns-2)

@@ -6,7 +6,7 @@ use mathlib.Core.Path.{refl}
 use Prim.Native.Nat.{_+_, _-_}
 use native.Mathlib.Omega.{arith}
 use Rattle.lists.specs.Run.{nth}
-use Rattle.rail.proofs.Checks.{Searching, search-first, search-next, search-stop, search-end, hit, miss}
+use Rattle.rail.proofs.Checks.{Searching, search-first, search-next, search-stop, search-end, hit, miss, no-more}
 use Rattle.sheet.specs.Checks.{passengersVerdict}
 use Rattle.sheet.proofs.checks.check_passengers.Statement.{statement}
 use Rattle.sheet.proofs.checks.check_passengers.Tie as tie
@@ -20,34 +20,16 @@ abbrev μ-loop : tie.MeasureT-loop
 loop-holds : tie.Need-loop-holds Inv-loop μ-loop
 loop-holds c = search-first _ _ _
 
-sub-if1 : tie.Need-sub-if1 Inv-loop μ-loop
-sub-if1 c = search needs
-
-mul-if1 : tie.Need-mul-if1 Inv-loop μ-loop
-mul-if1 c = search needs
-
-shared-slice-read-if1 : tie.Need-shared-slice-read-if1 Inv-loop μ-loop
-shared-slice-read-if1 c = search needs
-
-cast-t9 : tie.Need-cast-t9 Inv-loop μ-loop
-cast-t9 c = search needs
-
 -- a field was refused: it is the first
 returns : tie.Need-returns Inv-loop μ-loop
 unfolding passengersVerdict
 returns c = search-stop _ _ _ (c .before .before .before .loop .inv) (omega arith) refl (hit _ _ _ _ (omega arith))
 
-add-f : tie.Need-add-f Inv-loop μ-loop
-add-f c = search needs
-
-loop-less : tie.Need-loop-less Inv-loop μ-loop
-loop-less c = search needs
-
 -- it passed: the fields after it are still to be checked
 loop-again : tie.Need-loop-again Inv-loop μ-loop
 unfolding passengersVerdict
 loop-again c =
-    search-next _ _ _ (c .before .before .before .loop .inv) (omega arith) refl (miss _ _ _ _ _ (omega arith) refl)
+    search-next _ _ _ (c .before .before .before .loop .inv) (omega arith) refl (miss _ _ _ _ _ (omega arith) no-more)
 
 -- every field passed
 returns-2 : tie.Need-returns-2 Inv-loop μ-loop
@@ -56,16 +38,5 @@ returns-2 c = search-end _ _ _ (c .before .loop .inv) (omega arith)
 pub check-passengers-spec : {M : Type 1} → statement M
 check-passengers-spec =
     tie.close
-    (tie.spec
-    Inv-loop
-    μ-loop
-    loop-holds
-    sub-if1
-    mul-if1
-    shared-slice-read-if1
-    cast-t9
-    returns
-    add-f
-    loop-less
-    loop-again
-    returns-2)
+    (tie.spec Inv-loop μ-loop loop-holds (λ c. search needs) (λ c. search needs) (λ c. search needs) (λ c. search needs)
+    returns (λ c. search needs) (λ c. search needs) loop-again returns-2)

@@ -19,27 +19,12 @@ abbrev μ-loop : tie.MeasureT-loop
 loop-holds : tie.Need-loop-holds Inv-loop μ-loop
 loop-holds c = search-first _ _ _
 
-check-train-requires : tie.Need-check-train-requires Inv-loop μ-loop
-check-train-requires c κs = search needs
-
-enum-told : tie.Need-enum-told Inv-loop μ-loop
-enum-told c = search needs
-
 -- a train was refused: it is the first
 returns : tie.Need-returns Inv-loop μ-loop
 returns c =
     let turn = c .before .before in
     search-stop _ _ _ (turn .before .before .loop .inv) (omega arith) (c .enum-told .given .1)
     (turn .check-train .ensures)
-
-enum-told-2 : tie.Need-enum-told-2 Inv-loop μ-loop
-enum-told-2 c = search needs
-
-add-i : tie.Need-add-i Inv-loop μ-loop
-add-i c = search needs
-
-loop-less : tie.Need-loop-less Inv-loop μ-loop
-loop-less c = search needs
 
 -- it passed: the trains after it are still to be checked
 loop-again : tie.Need-loop-again Inv-loop μ-loop
@@ -55,15 +40,5 @@ returns-2 c = search-end _ _ _ (c .before .loop .inv) (omega arith)
 pub check-trains-spec : {M : Type 1} → statement M
 check-trains-spec =
     tie.close
-    (tie.spec
-    Inv-loop
-    μ-loop
-    loop-holds
-    check-train-requires
-    enum-told
-    returns
-    enum-told-2
-    add-i
-    loop-less
-    loop-again
-    returns-2)
+    (tie.spec Inv-loop μ-loop loop-holds (λ c κs. search needs) (λ c. search needs) returns (λ c. search needs)
+    (λ c. search needs) (λ c. search needs) loop-again returns-2)

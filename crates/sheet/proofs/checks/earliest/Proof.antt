@@ -9,29 +9,8 @@ use Rattle.sheet.specs.Checks.{earliestOf}
 use Rattle.sheet.proofs.checks.earliest.Statement.{statement}
 use Rattle.sheet.proofs.checks.earliest.Tie as tie
 
-leaves-requires : tie.Need-leaves-requires
-leaves-requires c κs = search needs
-
-feeder-requires : tie.Need-feeder-requires
-feeder-requires c κs = search needs
-
-index-requires : tie.Need-index-requires
-index-requires c κs = search needs
-
-mul-result : tie.Need-mul-result
-mul-result c = search needs
-
-shared-slice-read-result : tie.Need-shared-slice-read-result
-shared-slice-read-result c = search needs
-
 cast-result : tie.Need-cast-result
 cast-result c = omega (arith, c .shared-slice-known3 .given (c .before .index .result))
-
-mul-result-2 : tie.Need-mul-result-2
-mul-result-2 c = search needs
-
-shared-slice-read-result-2 : tie.Need-shared-slice-read-result-2
-shared-slice-read-result-2 c = search needs
 
 cast-result-2 : tie.Need-cast-result-2
 cast-result-2 c = omega (arith, c .shared-slice-known4 .given (c .before .before .index .result))
@@ -59,16 +38,5 @@ returns-2 c = sym (below-no _ _ (omega arith))
 pub earliest-spec : {M : Type 1} → statement M
 earliest-spec =
     tie.close
-    (tie.spec
-    leaves-requires
-    feeder-requires
-    index-requires
-    mul-result
-    shared-slice-read-result
-    cast-result
-    mul-result-2
-    shared-slice-read-result-2
-    cast-result-2
-    add-result
-    returns
-    returns-2)
+    (tie.spec (λ c κs. search needs) (λ c κs. search needs) (λ c κs. search needs) (λ c. search needs)
+    (λ c. search needs) cast-result (λ c. search needs) (λ c. search needs) cast-result-2 add-result returns returns-2)

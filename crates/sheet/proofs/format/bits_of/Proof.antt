@@ -14,9 +14,6 @@ mul-result c = omega (arith, square (c .args .m) (c .pre))
 mul-result-2 : tie.Need-mul-result-2
 mul-result-2 c = omega (arith, square (c .args .m) (c .pre))
 
-mul-result-3 : tie.Need-mul-result-3
-mul-result-3 c = search needs
-
 add-result : tie.Need-add-result
 add-result c = omega (arith, square (c .args .m) (c .pre))
 
@@ -28,5 +25,4 @@ unfolding bitsOf
 returns c = refl
 
 pub bits-of-spec : {M : Type 1} → statement M
-bits-of-spec =
-    tie.close (tie.spec mul-result mul-result-2 mul-result-3 add-result add-result-2 returns)
+bits-of-spec = tie.close (tie.spec mul-result mul-result-2 (λ c. search needs) add-result add-result-2 returns)

@@ -8,9 +8,6 @@ use Rattle.sheet.proofs.Lengths.{bits-le}
 use Rattle.sheet.proofs.format.bytes_of.Statement.{statement}
 use Rattle.sheet.proofs.format.bytes_of.Tie as tie
 
-bits-of-requires : tie.Need-bits-of-requires
-bits-of-requires c κs = search needs
-
 add-result : tie.Need-add-result
 add-result c = omega (arith, bits-le (c .before .args .m) (c .before .pre))
 
@@ -19,4 +16,4 @@ unfolding bytesOf
 returns c = rw (c .bits-of .ensures) refl
 
 pub bytes-of-spec : {M : Type 1} → statement M
-bytes-of-spec = tie.close (tie.spec bits-of-requires add-result returns)
+bytes-of-spec = tie.close (tie.spec (λ c κs. search needs) add-result returns)

@@ -11,18 +11,6 @@ use Rattle.sheet.proofs.Pairs.{fields-closed, field-closed, fields-mono
 use Rattle.sheet.proofs.format.field_of_pair.Statement.{statement}
 use Rattle.sheet.proofs.format.field_of_pair.Tie as tie
 
-index-requires : tie.Need-index-requires
-index-requires c κs = search needs
-
-mul-result : tie.Need-mul-result
-mul-result c = search needs
-
-add-result : tie.Need-add-result
-add-result c = search needs
-
-sub-result : tie.Need-sub-result
-sub-result c = search needs
-
 -- the product is twice the fields of the stations before
 before-fields : (c : tie.After-index) →
     let m = c .before .args .m in
@@ -40,12 +28,6 @@ before-fields c =
 
 mul-result-2 : tie.Need-mul-result-2
 mul-result-2 c = omega (arith, before-fields c)
-
-sub-result-2 : tie.Need-sub-result-2
-sub-result-2 c = search needs
-
-cast-result : tie.Need-cast-result
-cast-result c = search needs
 
 -- the fields of 64 trains are few
 add-result-2 : tie.Need-add-result-2
@@ -71,13 +53,5 @@ returns c =
 pub field-of-pair-spec : {M : Type 1} → statement M
 field-of-pair-spec =
     tie.close
-    (tie.spec
-    index-requires
-    mul-result
-    add-result
-    sub-result
-    mul-result-2
-    sub-result-2
-    cast-result
-    add-result-2
-    returns)
+    (tie.spec (λ c κs. search needs) (λ c. search needs) (λ c. search needs) (λ c. search needs) mul-result-2
+    (λ c. search needs) (λ c. search needs) add-result-2 returns)

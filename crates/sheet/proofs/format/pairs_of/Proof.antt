@@ -9,9 +9,6 @@ use Rattle.sheet.proofs.Lengths.{square}
 use Rattle.sheet.proofs.format.pairs_of.Statement.{statement}
 use Rattle.sheet.proofs.format.pairs_of.Tie as tie
 
-add-result : tie.Need-add-result
-add-result c = search needs
-
 mul-result : tie.Need-mul-result
 mul-result c = omega (arith, mul-add (c .args .m) (c .args .m) 1, square (c .args .m) (c .pre))
 
@@ -20,4 +17,4 @@ unfolding pairsOf
 returns c = refl
 
 pub pairs-of-spec : {M : Type 1} → statement M
-pairs-of-spec = tie.close (tie.spec add-result mul-result returns)
+pairs-of-spec = tie.close (tie.spec (λ c. search needs) mul-result returns)

@@ -37,24 +37,12 @@ mul-put c = omega (arith, reach c .near)
 add-put : tie.Need-add-put Inv-loop μ-loop
 add-put c = omega (arith, reach c .near)
 
-mul-put-2 : tie.Need-mul-put-2 Inv-loop μ-loop
-mul-put-2 c = search needs
-
-shared-slice-read-put : tie.Need-shared-slice-read-put Inv-loop μ-loop
-shared-slice-read-put c = search needs
-
 -- the place lies in the sheet, and its number fits the width
 put-requires : tie.Need-put-requires Inv-loop μ-loop
 put-requires c κs =
     let turn = c .before in
     let start = turn .before .before .before .before .before in
     (reach turn, start .pre .small (turn .before .before .loop .k) (turn .before .loop-test .taken))
-
-add-k : tie.Need-add-k Inv-loop μ-loop
-add-k c = search needs
-
-loop-less : tie.Need-loop-less Inv-loop μ-loop
-loop-less c = search needs
 
 -- one place more is put, and the fields of a column do not overlap
 loop-again : tie.Need-loop-again Inv-loop μ-loop
@@ -75,17 +63,5 @@ returns c =
 pub put-column-spec : {M : Type 1} → statement M
 put-column-spec =
     tie.close
-    (tie.spec
-    Inv-loop
-    μ-loop
-    loop-holds
-    mul-put
-    add-put
-    mul-put-2
-    shared-slice-read-put
-    put-requires
-    add-k
-    loop-less
-    loop-again
-    same-length
-    returns)
+    (tie.spec Inv-loop μ-loop loop-holds mul-put add-put (λ c. search needs) (λ c. search needs) put-requires
+    (λ c. search needs) (λ c. search needs) loop-again same-length returns)

@@ -7,9 +7,6 @@ use Rattle.sheet.proofs.Lengths.{bits-le, bytes-bits}
 use Rattle.writer.proofs.putting.put_filling.Statement.{statement}
 use Rattle.writer.proofs.putting.put_filling.Tie as tie
 
-bits-of-requires : tie.Need-bits-of-requires
-bits-of-requires c κs = search needs
-
 -- eight times the bytes of 64 trains is small
 mul-put : tie.Need-mul-put
 mul-put c =
@@ -32,9 +29,6 @@ put-requires c κs =
     let e = c .before .bits-of .ensures in
     (omega (arith, bits-le (start .args .m) (start .pre .0)), pow-pos _)
 
-same-length : tie.Need-same-length
-same-length c = search needs
-
 -- the filling begins behind the last field
 returns : tie.Need-returns
 returns c =
@@ -42,5 +36,4 @@ returns c =
     rw (← called .before .bits-of .ensures, ← called .before .before .before .pre .1) (c .before .before .put .ensures)
 
 pub put-filling-spec : {M : Type 1} → statement M
-put-filling-spec =
-    tie.close (tie.spec bits-of-requires mul-put sub-put put-requires same-length returns)
+put-filling-spec = tie.close (tie.spec (λ c κs. search needs) mul-put sub-put put-requires (λ c. search needs) returns)

@@ -8,15 +8,6 @@ use Rattle.bits.proofs.Puts.{put-apart}
 use Rattle.writer.proofs.putting.put_head.Statement.{statement}
 use Rattle.writer.proofs.putting.put_head.Tie as tie
 
-put-requires : tie.Need-put-requires
-put-requires c κs = search needs
-
-put-requires-2 : tie.Need-put-requires-2
-put-requires-2 c κs = search needs
-
-same-length : tie.Need-same-length
-same-length c = search needs
-
 -- m stays under T, and T holds
 returns : tie.Need-returns
 returns c =
@@ -29,4 +20,4 @@ returns c =
     }
 
 pub put-head-spec : {M : Type 1} → statement M
-put-head-spec = tie.close (tie.spec put-requires put-requires-2 same-length returns)
+put-head-spec = tie.close (tie.spec (λ c κs. search needs) (λ c κs. search needs) (λ c. search needs) returns)

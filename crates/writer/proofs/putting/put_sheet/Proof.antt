@@ -22,9 +22,6 @@ put-times-requires c κs =
     let head = c .before .before .before in
     times-room _ _ _ (entry-of head .pre) (head .put-head .ensures .long)
 
-passengers-requires : tie.Need-passengers-requires
-passengers-requires c κs = search needs
-
 -- and so did the times
 put-column-requires : tie.Need-put-column-requires
 put-column-requires c κs =
@@ -32,12 +29,6 @@ put-column-requires c κs =
     let head = head-of times in
     rw (c .passengers .ensures)
     (passengers-room _ _ _ (entry-of head .pre) (times .put-times .ensures .long ∙ head .put-head .ensures .long))
-
-put-filling-requires : tie.Need-put-filling-requires
-put-filling-requires c κs = search needs
-
-same-length : tie.Need-same-length
-same-length c = search needs
 
 -- the steps, one after the other, leave the sheet
 returns : tie.Need-returns
@@ -54,11 +45,5 @@ returns c =
 pub put-sheet-spec : {M : Type 1} → statement M
 put-sheet-spec =
     tie.close
-    (tie.spec
-    put-head-requires
-    put-times-requires
-    passengers-requires
-    put-column-requires
-    put-filling-requires
-    same-length
-    returns)
+    (tie.spec put-head-requires put-times-requires (λ c κs. search needs) put-column-requires (λ c κs. search needs)
+    (λ c. search needs) returns)

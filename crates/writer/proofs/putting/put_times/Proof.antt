@@ -8,9 +8,6 @@ use Rattle.writer.proofs.Whole.{departures-room, driving-room, delays-r
 use Rattle.writer.proofs.putting.put_times.Statement.{statement}
 use Rattle.writer.proofs.putting.put_times.Tie as tie
 
-departures-requires : tie.Need-departures-requires
-departures-requires c κs = search needs
-
 -- from where a column is put back to the one before it, and to the entry
 abbrev entry-of : tie.After-put-column → tie.Start
 entry-of c = c .before .before .before .before .before .before .before
@@ -23,9 +20,6 @@ put-column-requires : tie.Need-put-column-requires
 put-column-requires c κs =
     let start = c .before .before .before .before .before .before in
     rw (c .departures .ensures) (departures-room _ _ _ _ _ _ (start .pre) refl)
-
-driving-requires : tie.Need-driving-requires
-driving-requires c κs = search needs
 
 -- after the first column and after the second
 departures-put : (c : tie.After-put-column) →
@@ -44,9 +38,6 @@ put-column-requires-2 c κs =
     let first = c .before .before .before .before in
     rw (c .driving .ensures) (driving-room _ _ _ _ _ _ (entry-of first .pre) (departures-put first .long))
 
-delays-requires : tie.Need-delays-requires
-delays-requires c κs = search needs
-
 -- the source delays
 put-column-requires-3 : tie.Need-put-column-requires-3
 put-column-requires-3 c κs =
@@ -54,9 +45,6 @@ put-column-requires-3 c κs =
     let first = first-of second in
     rw (c .delays .ensures)
     (delays-room _ _ _ _ _ _ (entry-of first .pre) (driving-put second .long ∙ departures-put first .long))
-
-same-length : tie.Need-same-length
-same-length c = search needs
 
 -- later columns leave the earlier ones as they are
 returns : tie.Need-returns
@@ -70,12 +58,5 @@ returns c =
 pub put-times-spec : {M : Type 1} → statement M
 put-times-spec =
     tie.close
-    (tie.spec
-    departures-requires
-    put-column-requires
-    driving-requires
-    put-column-requires-2
-    delays-requires
-    put-column-requires-3
-    same-length
-    returns)
+    (tie.spec (λ c κs. search needs) put-column-requires (λ c κs. search needs) put-column-requires-2
+    (λ c κs. search needs) put-column-requires-3 (λ c. search needs) returns)
