@@ -3,7 +3,7 @@
 use mathlib.Core.Path.{_≡_}
 use Prim.Native.Nat.{ℕ}
 use Rattle.rail.specs.declared.Verdict.the-variants.{Fine}
-use Rattle.rail.proofs.Checks.{then-fine, fine-then, is-same, fine-same}
+use Rattle.rail.proofs.Checks.{then-fine, fine-then, passed-of-fine, fine-of-passed}
 use Rattle.sheet.proofs.Facts.{lengths-of-fine, fine-of-lengths, ranges-of-fine, fine-of-ranges, in-range-of-fine}
 use Rattle.sheet.proofs.Facts.{ranges-of-in-range, fine-of-in-range}
 use Rattle.writer.specs.Write.{Given, numbersGiven, writeVerdict, Accepts}
@@ -15,7 +15,7 @@ accepts-of-fine room G e =
     let b = then-fine _ _ (a .1) in
     let c = then-fine _ _ (b .1) in
     record {
-      room-is = is-same _ _ _ (a .0);
+      room-is = passed-of-fine _ (a .0) .0;
       lengths = lengths-of-fine _ _ _ _ (c .0);
       range = in-range-of-fine (numbersGiven G) (ranges-of-fine _ _ (b .0)) (c .1);
     }
@@ -23,7 +23,7 @@ accepts-of-fine room G e =
 pub fine-of-accepts : (room : ℕ) (G : Given) → Accepts room G → writeVerdict room G ≡ Fine
 unfolding writeVerdict
 fine-of-accepts room G h =
-    fine-then (fine-same _ _ _ (h .room-is))
+    fine-then (fine-of-passed _ (h .room-is, tt))
     (fine-then (fine-of-ranges _ _ (ranges-of-in-range (numbersGiven G) (h .range)))
     (fine-then (fine-of-lengths _ _ _ _ (h .lengths))
     (fine-of-in-range (numbersGiven G) (h .range))))

@@ -6,34 +6,25 @@ use mathlib.Core.Logic.{⊎-elim}
 use Prim.Native.Nat.{ℕ}
 use lib.ListN.{length, drop, take-append-drop}
 use lib.Seq.{take-at, drop-at}
-use Rattle.lists.proofs.Order.{zero-not-one}
 use Rattle.rail.specs.declared.Refusal.{Refusal}
 use Rattle.rail.specs.declared.Verdict.{Verdict}
 use Rattle.rail.specs.declared.Verdict.the-variants.{Fine, Refused}
-use Rattle.rail.specs.Verdict.{numberIn, placeIn}
-use Rattle.rail.proofs.Checks.{refused-not-fine, fine-or-refused, if-fine, if-refused}
+use Rattle.rail.specs.declared.Answer.{Answer}
+use Rattle.rail.specs.declared.Answer.the-variants.{Accepted, Refused as AnswerRefused}
+use Rattle.rail.specs.Answer.{answerOf}
+use Rattle.rail.proofs.Checks.{refused-not-fine, fine-or-refused}
 use Rattle.sheet.specs.Format.{bytesOf}
 use Rattle.sheet.specs.Accepted.{SheetOf}
 use Rattle.sheet.proofs.Meaning.{sheet-of-one}
-use Rattle.writer.specs.declared.Writing.{Writing}
-use Rattle.writer.specs.declared.Writing.the-variants.{Accepted, Refused as WriteRefused}
-use Rattle.writer.specs.Write.{writingOf, Given, numbersGiven, writeVerdict, Write}
-
--- an answer that accepts tells that the verdict is fine
-pub written-fine : (v : Verdict) (k : ℕ) {n : ℕ} → Accepted n ≡ writingOf v k → (v ≡ Fine) × (n ≡ k)
-written-fine Fine k e = (refl, cc)
-written-fine (Refused r) k e = zero-not-one (cc)
+use Rattle.writer.specs.Write.{Given, numbersGiven, writeVerdict, Write}
 
 module _ (G : Given) (before : List ℕ) where
   -- a refusal changes nothing
   pub write-refused : {r : Refusal} → Refused r ≡ writeVerdict (length before) G
-      → Write G before before (WriteRefused r)
+      → Write G before before (AnswerRefused r)
   write-refused e =
       record {
-        answer = ap (λ (v : Verdict). writingOf v (bytesOf (G .trains))) e;
-        number = ap numberIn e;
-        place = ap placeIn e;
-        long = if-refused _ _ _ e;
+        answer = ap (λ (v : Verdict). answerOf v (bytesOf (G .trains))) e;
         sheet = λ fine. refused-not-fine (e ∙ fine);
         rest = λ fine. refl;
         unchanged = λ r q. refl;
@@ -45,17 +36,14 @@ module _ (G : Given) (before : List ℕ) where
   write-accepted {n} {first} p e h =
       let long : length first ≡ bytesOf (G .trains) = h .long in
       record {
-        answer = ap (λ (k : ℕ). Accepted k) p ∙ ap (λ (v : Verdict). writingOf v (bytesOf (G .trains))) e;
-        number = ap numberIn e;
-        place = ap placeIn e;
-        long = p ∙ if-fine _ _ _ e;
+        answer = ap (λ (k : ℕ). Accepted k) p ∙ ap (λ (v : Verdict). answerOf v (bytesOf (G .trains))) e;
         sheet = λ fine. rw (take-at first (drop n before) (bytesOf (G .trains)) long) h;
         rest = λ fine. drop-at first (drop n before) (bytesOf (G .trains)) long ∙ ap (λ (k : ℕ). drop k before) p;
         unchanged = λ r q. refused-not-fine (sym q ∙ sym e);
       }
 
 -- two outcomes that keep write's promise are equal
-pub write-one : (G : Given) (before after after′ : List ℕ) (a a′ : Writing) → Write G before after a
+pub write-one : (G : Given) (before after after′ : List ℕ) (a a′ : Answer) → Write G before after a
     → Write G before after′ a′
     → (a ≡ a′) × (after ≡ after′)
 write-one G before after after′ a a′ g h =

@@ -1,6 +1,4 @@
 -- What write returns and what it leaves in the lent bytes. Document 01, "Four operations", and "Numbers of refusal".
---   writeNumber a, writePlace a, writeLength a     what the paper has the answer a carry
---   writingOf v n             the answer by the verdict v
 --   Given, given m T L        m, T and the four lists
 --   numbersGiven G            the line's numbers that they hold
 --   writeVerdict room G       all checks of write, in their order, for an output of `room` bytes
@@ -9,37 +7,20 @@
 -- Assumes nothing.
 use Prim.Native.Nat.{ℕ}
 use mathlib.Core.Path.{_≡_}
-use mathlib.Core.List.{List}
+use mathlib.Core.List.{List, [], _∷_}
 use lib.ListN.{length, take, drop}
 use Rattle.rail.specs.declared.Refusal.{Refusal}
-use Rattle.rail.specs.declared.Refusal.the-variants.{BufferLength, ListLength}
+use Rattle.rail.specs.declared.ListFault.the-variants.{BufferLength, ListLength}
+use Rattle.rail.specs.declared.Refusal.the-variants.{OfList}
 use Rattle.rail.specs.declared.Verdict.{Verdict}
 use Rattle.rail.specs.declared.Verdict.the-variants.{Fine, Refused}
-use Rattle.rail.specs.Refusal.{numberOf, placeOf}
-use Rattle.rail.specs.Verdict.{refuse_unless_is_, _andThen_, ifFine, numberIn, placeIn}
+use Rattle.rail.specs.declared.Answer.{Answer}
+use Rattle.rail.specs.Verdict.{refuse_unless_is_, verdictOf, _andThen_}
+use Rattle.rail.specs.Answer.{answerOf}
 use Rattle.sheet.specs.Format.{bytesOf, pairsOf}
 use Rattle.sheet.specs.Numbers.{Numbers, Lists, numbersIn}
 use Rattle.sheet.specs.Checks.{lengthsVerdict, rangesVerdict, numbersVerdict}
 use Rattle.sheet.specs.Accepted.{Lengths, InRange, SheetOf}
-use Rattle.writer.specs.declared.Writing.{Writing}
-use Rattle.writer.specs.declared.Writing.the-variants.{Accepted, Refused as WriteRefused}
-
--- accepted answers carry number and place 0 and the length; refused ones carry number and place, and length 0
-abbrev pub writeNumber : Writing → ℕ
-writeNumber (Accepted n) = 0
-writeNumber (WriteRefused r) = numberOf r
-
-abbrev pub writePlace : Writing → ℕ
-writePlace (Accepted n) = 0
-writePlace (WriteRefused r) = placeOf r
-
-abbrev pub writeLength : Writing → ℕ
-writeLength (Accepted n) = n
-writeLength (WriteRefused r) = 0
-
-abbrev pub writingOf : Verdict → ℕ → Writing
-writingOf Fine n = Accepted n
-writingOf (Refused r) n = WriteRefused r
 
 pub record Given : Type 0 where
   pub trains : ℕ
@@ -55,9 +36,9 @@ numbersGiven G = numbersIn (G .trains) (G .period) (G .lists)
 -- the output buffer; m and T; the lists of m, m, m and m(m+1)/2 numbers; then the numbers
 unfoldable pub writeVerdict : ℕ → Given → Verdict
 writeVerdict room G =
-    (refuse BufferLength unless room is 3907)
+    verdictOf ((refuse (OfList BufferLength) unless room is 3907) ∷ [])
     andThen rangesVerdict (G .trains) (G .period)
-    andThen lengthsVerdict ListLength (G .trains) (pairsOf (G .trains)) (G .lists)
+    andThen lengthsVerdict (OfList ListLength) (G .trains) (pairsOf (G .trains)) (G .lists)
     andThen numbersVerdict (G .trains) (numbersGiven G .times) (numbersGiven G .passengers)
 
 -- what write accepts, in plain facts
@@ -67,11 +48,8 @@ pub record Accepts (room : ℕ) (G : Given) : Type 0 where
   pub range : InRange (numbersGiven G)
 
 -- accepted: the sheet first, the rest unchanged; its length is returned. Refused: nothing changed, length 0
-pub record Write (G : Given) (before after : List ℕ) (a : Writing) : Type 0 where
-  pub answer : a ≡ writingOf (writeVerdict (length before) G) (bytesOf (G .trains))
-  pub number : writeNumber a ≡ numberIn (writeVerdict (length before) G)
-  pub place : writePlace a ≡ placeIn (writeVerdict (length before) G)
-  pub long : writeLength a ≡ ifFine (writeVerdict (length before) G) (bytesOf (G .trains)) 0
+pub record Write (G : Given) (before after : List ℕ) (a : Answer) : Type 0 where
+  pub answer : a ≡ answerOf (writeVerdict (length before) G) (bytesOf (G .trains))
   pub sheet : writeVerdict (length before) G ≡ Fine → SheetOf (numbersGiven G) (take (bytesOf (G .trains)) after)
   pub rest : writeVerdict (length before) G ≡ Fine
       → drop (bytesOf (G .trains)) after ≡ drop (bytesOf (G .trains)) before

@@ -4,9 +4,10 @@ mod putting;
 
 ghost use mathlib.Core.Path.{_≡_};
 ghost use Rattle.sheet.specs.Numbers.{lists};
-ghost use Rattle.writer.specs.Write.{writeNumber, writePlace, writeLength, given};
-ghost use Rattle.writer.specs.Write.{writeVerdict, Write};
+ghost use Rattle.writer.specs.Write.{given, writeVerdict, Write};
 use crate::putting::put_sheet;
+use rail::Answer;
+use rail::ListFault;
 use rail::Refusal;
 use rail::Verdict;
 use sheet::checks::check_lengths;
@@ -14,44 +15,6 @@ use sheet::checks::check_numbers;
 use sheet::checks::check_ranges;
 use sheet::format::bytes_of;
 use sheet::format::pairs_of;
-
-// What write answers: the length of the sheet, or why not.
-pub enum Writing {
-    Accepted(usize),
-    Refused(Refusal),
-}
-
-impl Writing {
-    // The number of the refusal, 0 where accepted.
-    pub fn number(self) -> u32
-        ensures { λ r. ⌜ r ≡ writeNumber self ⌝ }
-    {
-        match self {
-            Writing::Accepted(_) => 0,
-            Writing::Refused(refusal) => refusal.number(),
-        }
-    }
-
-    // The place of the refusal, 0 where accepted or where it has none.
-    pub fn place(self) -> u32
-        ensures { λ r. ⌜ r ≡ writePlace self ⌝ }
-    {
-        match self {
-            Writing::Accepted(_) => 0,
-            Writing::Refused(refusal) => refusal.place(),
-        }
-    }
-
-    // The bytes of the sheet, 0 where refused.
-    pub fn length(self) -> usize
-        ensures { λ r. ⌜ r ≡ writeLength self ⌝ }
-    {
-        match self {
-            Writing::Accepted(bytes) => bytes,
-            Writing::Refused(_) => 0,
-        }
-    }
-}
 
 // All checks of write, in their order; `room` is the length of the output.
 fn check_write(
@@ -70,7 +33,7 @@ fn check_write(
         ⌝ }
 {
     if room != 3907 {
-        return Verdict::Refused(Refusal::BufferLength);
+        return Verdict::Refused(Refusal::OfList(ListFault::BufferLength));
     }
     let ranges = check_ranges(m, period);
     if let Verdict::Refused(_) = ranges {
@@ -79,7 +42,7 @@ fn check_write(
     let n = m as usize;
     let pairs = pairs_of(n);
     let lengths = check_lengths(
-        Refusal::ListLength,
+        Refusal::OfList(ListFault::ListLength),
         n,
         pairs,
         departures,
@@ -102,7 +65,7 @@ pub fn write(
     delays: &[u32],
     passengers: &[u32],
     sheet: &mut [u8],
-) -> Writing
+) -> Answer
     ensures { λ r. ⌜ Write
         (given m period
         (lists (now (departures .entry)) (now (driving .entry))
@@ -119,7 +82,7 @@ pub fn write(
         passengers,
     );
     if let Verdict::Refused(refusal) = verdict {
-        return Writing::Refused(refusal);
+        return Answer::Refused(refusal);
     }
     let n = bytes_of(m as usize);
     put_sheet(
@@ -131,5 +94,5 @@ pub fn write(
         delays,
         passengers,
     );
-    Writing::Accepted(n)
+    Answer::Accepted(n as u64)
 }

@@ -1,12 +1,13 @@
 -- `writer::check_write` meets its contract: the first check that refuses, else the verdict on the numbers.
 -- Assumes nothing.
 use borrow.Author.Needs.{needs}
-use mathlib.Core.Path.{_≡_, sym, ap, _∙_}
+use mathlib.Core.Path.{_≡_, refl, sym, ap, _∙_}
 use Prim.Native.Nat.{ℕ}
 use native.Mathlib.Omega.{arith}
-use Rattle.rail.specs.declared.Refusal.the-variants.{ListLength}
+use Rattle.rail.specs.declared.ListFault.the-variants.{ListLength}
+use Rattle.rail.specs.declared.Refusal.the-variants.{OfList}
 use Rattle.rail.specs.declared.Verdict.the-variants.{Fine}
-use Rattle.rail.proofs.Checks.{unlike, alike, then-stop, then-pass}
+use Rattle.rail.proofs.Checks.{unlike, alike, no-more, then-stop, then-pass}
 use Rattle.sheet.specs.Format.{pairsOf}
 use Rattle.sheet.specs.Numbers.{lists}
 use Rattle.sheet.specs.Checks.{lengthsVerdict, rangesVerdict}
@@ -25,13 +26,13 @@ ranges-of c = c .before .before .before .before
 -- the output buffer has another length
 returns : tie.Need-returns
 unfolding writeVerdict
-returns c = unlike _ _ _ _ (omega arith)
+returns c = then-stop _ _ refl (unlike _ _ _ _ (omega arith))
 
 -- m or T is refused
 returns-2 : tie.Need-returns-2
 unfolding writeVerdict
 returns-2 c =
-    alike _ _ _ _ _ (omega arith) (then-stop _ _ (c .enum-told .given .1) (c .before .before .check-ranges .ensures))
+    then-pass _ _ _ (sym (alike _ _ _ _ _ (omega arith) no-more)) (then-stop _ _ (c .enum-told .given .1) (c .before .before .check-ranges .ensures))
 
 -- m and T passed
 right-ranges : (c : tie.After-enum-told2) →
@@ -45,19 +46,19 @@ pairs-of-requires c κs = ranges-of-fine _ _ (right-ranges c) .trains-most
 lengths-are : (c : tie.After-check-lengths) →
     let start = entry-of (ranges-of c) .args in
     let given = lists (start .departures .now) (start .driving .now) (start .delays .now) (start .passengers .now) in
-    c .check-lengths .result ≡ lengthsVerdict ListLength (start .m) (pairsOf (start .m)) given
+    c .check-lengths .result ≡ lengthsVerdict (OfList ListLength) (start .m) (pairsOf (start .m)) given
 lengths-are c =
     let start = entry-of (ranges-of c) .args in
     let given = lists (start .departures .now) (start .driving .now) (start .delays .now) (start .passengers .now) in
     c .check-lengths .ensures
-    ∙ ap (λ (k : ℕ). lengthsVerdict ListLength (start .m) k given) (c .before .pairs-of .ensures)
+    ∙ ap (λ (k : ℕ). lengthsVerdict (OfList ListLength) (start .m) k given) (c .before .pairs-of .ensures)
 
 -- a list has another length
 returns-3 : tie.Need-returns-3
 unfolding writeVerdict
 returns-3 c =
     let checked = c .before .before in
-    alike _ _ _ _ _ (omega arith)
+    then-pass _ _ _ (sym (alike _ _ _ _ _ (omega arith) no-more))
     (then-pass _ _ _ (right-ranges (checked .before .before))
     (then-stop _ _ (c .enum-told3 .given .1) (lengths-are checked)))
 
@@ -74,7 +75,7 @@ returns-4 : tie.Need-returns-4
 unfolding writeVerdict
 returns-4 c =
     let checked = c .before .before .before in
-    alike _ _ _ _ _ (omega arith)
+    then-pass _ _ _ (sym (alike _ _ _ _ _ (omega arith) no-more))
     (then-pass _ _ _ (right-ranges (checked .before .before))
     (then-pass _ _ _ (sym (lengths-are checked) ∙ c .before .enum-told4 .given .1)
     (c .check-numbers .ensures)))
