@@ -1,3 +1,4 @@
+pub mod Reportable
 pub mod Refusals
-pub mod Taken
+pub mod Settles
 pub mod Outcome

@@ -6,57 +6,41 @@ use mathlib.Core.Bool.{true, false}
 use mathlib.Core.List.{List}
 use mathlib.Core.Logic.{_⊎_, inl, inr}
 use Prim.Native.Nat.{ℕ}
+use borrow.Author.Needs.{needs}
+use Rattle.rail.specs.declared.ListFault.the-variants.{BufferLength}
 use Rattle.rail.specs.declared.Refusal.{Refusal}
-use Rattle.rail.specs.declared.Refusal.the-variants.{BufferLength}
+use Rattle.rail.specs.declared.Refusal.the-variants.{OfList}
 use Rattle.rail.specs.declared.Verdict.{Verdict}
 use Rattle.rail.specs.declared.Verdict.the-variants.{Fine, Refused}
 use Rattle.rail.specs.Refusal.{blanksOf}
 use Rattle.rail.specs.Verdict.{_andThen_}
-use Rattle.rail.proofs.Checks.{fine-or-refused, then-stop, then-pass, then-fine, fine-then, fine-same, is-same}
-use Rattle.rail.proofs.Refusing.{only-fine, only-refused, only-unless, only-then}
+use Rattle.rail.proofs.Checks.{fine-or-refused, then-stop, then-pass, then-fine, fine-then}
+use Rattle.rail.proofs.Checks.{passed-of-fine, fine-of-passed}
+use Rattle.rail.proofs.Refusing.{only-refused, only-of, only-then}
 use Rattle.sheet.specs.Format.{trainsOf}
 use Rattle.sheet.specs.Checks.{sheetVerdict}
 use Rattle.sheet.specs.Accepted.{AcceptedSheet}
 use Rattle.sheet.proofs.Facts.{accepted-of-fine, fine-of-accepted}
 use Rattle.sheet.proofs.Refusals.{sheet-refusal-blanks}
-use Rattle.amend.specs.Checks.{ownVerdict, Reportable}
-use Rattle.amend.proofs.Reportable.{reportable-of-fine, fine-of-reportable, own-refusal-blanks}
-use Rattle.settle.specs.Buffers.{Buffers, RightLengths}
-use Rattle.planner.specs.Outcome.{bufferLengthsVerdict, buffersVerdict}
+use Rattle.planner.specs.Buffers.{Buffers, RightLengths, bufferLengthsVerdict, buffersVerdict}
 use Rattle.planner.specs.Plan.{planVerdict}
+use Rattle.planner.specs.ReportChecks.{ownVerdict, Reportable}
 use Rattle.planner.specs.Report.{reportVerdict}
+use Rattle.planner.proofs.Reportable.{reportable-of-fine, fine-of-reportable, own-refusal-blanks}
 
 -- ---- the buffers
 
-pub lengths-of-fine : (cells decisions delays : ℕ) → bufferLengthsVerdict cells decisions delays ≡ Fine
-    → (cells ≡ 4096) × (decisions ≡ 64) × (delays ≡ 64)
-unfolding bufferLengthsVerdict
-lengths-of-fine cells decisions delays e =
-    let x = then-fine _ _ e in
-    let y = then-fine _ _ (x .1) in
-    let z = then-fine _ _ (y .1) in
-    (is-same _ _ _ (x .0), is-same _ _ _ (y .0), is-same _ _ _ (z .0))
-
 pub right-of-fine : (b : Buffers) → buffersVerdict b ≡ Fine → RightLengths b
-right-of-fine b e =
-    let long = lengths-of-fine _ _ _ e in
-    record { cells = long .0; decisions = long .1; delays = long .2 }
+unfolding bufferLengthsVerdict
+right-of-fine b e = let passed = passed-of-fine _ e in search needs
 
 fine-of-right : (b : Buffers) → RightLengths b → buffersVerdict b ≡ Fine
 unfolding bufferLengthsVerdict
-fine-of-right b h =
-    fine-then (fine-same _ _ _ (h .cells))
-    (fine-then (fine-same _ _ _ (h .decisions))
-    (fine-then (fine-same _ _ _ (h .delays))
-    refl))
+fine-of-right b h = fine-of-passed _ (search needs)
 
-pub buffers-refusal : (b : Buffers) (r : Refusal) → buffersVerdict b ≡ Refused r → BufferLength ≡ r
+pub buffers-refusal : (b : Buffers) (r : Refusal) → buffersVerdict b ≡ Refused r → OfList BufferLength ≡ r
 unfolding bufferLengthsVerdict
-buffers-refusal b =
-    only-then _ _ _ (only-unless _ _ _ _ refl)
-    (only-then _ _ _ (only-unless _ _ _ _ refl)
-    (only-then _ _ _ (only-unless _ _ _ _ refl)
-    (only-fine _)))
+buffers-refusal b = only-of _ _ (inr refl, inr refl, inr refl, tt)
 
 -- the lengths, then the checks w
 module _ (b : Buffers) (w : Verdict) where
@@ -65,7 +49,7 @@ module _ (b : Buffers) (w : Verdict) where
   checks-right right = sym (then-pass _ w _ (fine-of-right b right) refl)
 
   -- with others they are refused for their length
-  pub checks-wrong : (r : Refusal) → buffersVerdict b ≡ Refused r → buffersVerdict b andThen w ≡ Refused BufferLength
+  pub checks-wrong : (r : Refusal) → buffersVerdict b ≡ Refused r → buffersVerdict b andThen w ≡ Refused (OfList BufferLength)
   checks-wrong r e =
       sym (then-stop (buffersVerdict b) w refl (sym e)) ∙ ap Refused (sym (buffers-refusal b r e))
 
@@ -78,7 +62,7 @@ module _ (b : Buffers) (w : Verdict) where
   right-or-unwritten r e = elim (fine-or-refused (buffersVerdict b)) [
     | inl fine ↦ inl (right-of-fine b fine)
     | inr (q, wrong) ↦
-        inr (only-refused (λ (x : Refusal). blanksOf x ≡ false) BufferLength refl r (sym (checks-wrong q wrong) ∙ e))
+        inr (only-refused (λ (x : Refusal). blanksOf x ≡ false) (OfList BufferLength) refl r (sym (checks-wrong q wrong) ∙ e))
   ]
 
 -- ---- plan

@@ -2,63 +2,29 @@
 // Report: the same after one train's source delay changed, worked from that train's row to row 1.
 // Neither has a `requires`: any sheet of bytes, any report and any buffers get an answer.
 mod checking;
+mod settling;
 
 ghost use mathlib.Core.Path.{_≡_};
 ghost use lib.ListN.{length, replicate};
 ghost use Rattle.lists.specs.Choice.{if_then_else_};
 ghost use Rattle.rail.specs.Refusal.{blanksOf};
-ghost use Rattle.settle.specs.Buffers.{buffers};
-ghost use Rattle.planner.specs.Outcome.{answerNumber, answerPlace, answerTotal};
+ghost use Rattle.sheet.specs.Accepted.{DelayReplaced};
+ghost use Rattle.planner.specs.Buffers.{buffers};
 ghost use Rattle.planner.specs.Plan.{Plan};
 ghost use Rattle.planner.specs.Report.{Report};
+ghost use Rattle.planner.specs.Workable.{DelayRoom};
 use crate::checking::check_plan;
 use crate::checking::check_report;
-use amend::put_delay;
-use amend::with_delay;
-use decoder::Reading;
+use crate::settling::settle;
+use bits::put;
+use cells::timing::set_source;
 use lists::fill_u8;
 use lists::fill_u32;
+use rail::Answer;
 use rail::Refusal;
 use rail::Train;
-use settle::settle_numbers;
-
-// What plan and report answer: the total, or why not.
-pub enum Answer {
-    Accepted(u64),
-    Refused(Refusal),
-}
-
-impl Answer {
-    // The number of the refusal, 0 where accepted.
-    pub fn number(self) -> u32
-        ensures { λ r. ⌜ r ≡ answerNumber self ⌝ }
-    {
-        match self {
-            Answer::Accepted(_) => 0,
-            Answer::Refused(refusal) => refusal.number(),
-        }
-    }
-
-    // The place of the refusal, 0 where accepted or where it has none.
-    pub fn place(self) -> u32
-        ensures { λ r. ⌜ r ≡ answerPlace self ⌝ }
-    {
-        match self {
-            Answer::Accepted(_) => 0,
-            Answer::Refused(refusal) => refusal.place(),
-        }
-    }
-
-    // The total, 0 where refused.
-    pub fn total(self) -> u64
-        ensures { λ r. ⌜ r ≡ answerTotal self ⌝ }
-    {
-        match self {
-            Answer::Accepted(total) => total,
-            Answer::Refused(_) => 0,
-        }
-    }
-}
+use reader::Reading;
+use sheet::format::Column;
 
 // A blanked decision byte: neither keep nor go.
 const BLANK: u8 = 2;
@@ -89,20 +55,32 @@ pub fn plan(sheet: &[u8], cells: &mut [u64], decisions: &mut [u8], delays: &mut 
         (buffers (now (cells .exit)) (now (decisions .exit)) (now (delays .exit)))
         r ⌝ }
 {
-    let checked = check_plan(sheet, cells.len(), decisions.len(), delays.len());
-    let answer = checked.answer;
-    match answer {
+    let mut timing = [0u32; 192];
+    let mut sums = [0u32; 4096];
+    let checked = check_plan(
+        sheet,
+        cells.len(),
+        decisions.len(),
+        delays.len(),
+        &mut timing,
+        &mut sums,
+    );
+    match checked {
         Reading::Refused(refusal) => refuse(refusal, decisions, delays),
-        Reading::Accepted(m, period) => Answer::Accepted(settle_numbers(
-            m,
-            period,
-            checked.columns,
-            Train(m),
-            cells,
-            decisions,
-            delays,
-        )),
+        Reading::Accepted(m, _) => {
+            Answer::Accepted(settle(m, Train(m), cells, decisions, delays, &timing, &sums))
+        }
     }
+}
+
+// The field of the train's source delay becomes `delay`.
+fn put_delay(sheet: &mut [u8], train: Train, delay: u32)
+    requires { ⌜ DelayRoom (now sheet) (train .0) delay ⌝ }
+    ensures { λ _. ⌜ DelayReplaced (now (sheet .entry)) (train .0) delay (now (sheet .exit)) ⌝ }
+{
+    let column = Column::delays();
+    let k = train.index();
+    put(sheet, column.first + column.step * k, column.width, delay);
 }
 
 // Takes a new source delay of one train: puts it into the sheet, and works anew the rows of that
@@ -123,14 +101,24 @@ pub fn report(
         (buffers (now (cells .exit)) (now (decisions .exit)) (now (delays .exit)))
         r ⌝ }
 {
-    let checked = check_report(sheet, train, delay, cells, decisions.len(), delays.len());
-    let answer = checked.answer;
-    match answer {
+    let mut timing = [0u32; 192];
+    let mut sums = [0u32; 4096];
+    let checked = check_report(
+        sheet,
+        train,
+        delay,
+        cells,
+        decisions.len(),
+        delays.len(),
+        &mut timing,
+        &mut sums,
+    );
+    match checked {
         Reading::Refused(refusal) => refuse(refusal, decisions, delays),
-        Reading::Accepted(m, period) => {
+        Reading::Accepted(m, _) => {
             put_delay(sheet, train, delay);
-            let columns = with_delay(checked.columns, train, delay);
-            Answer::Accepted(settle_numbers(m, period, columns, train, cells, decisions, delays))
+            set_source(&mut timing, train, delay);
+            Answer::Accepted(settle(m, train, cells, decisions, delays, &timing, &sums))
         }
     }
 }

@@ -17,8 +17,8 @@ use Rattle.cells.specs.Place.{tableOf}
 use Rattle.cells.specs.Shown.{shown}
 use Rattle.cells.proofs.Written.{rows-worked-alike}
 use Rattle.cells.proofs.Shown.{shown-same}
-use Rattle.settle.specs.Buffers.{Buffers}
-use Rattle.settle.specs.Settled.{Settled}
+use Rattle.planner.specs.Buffers.{Buffers}
+use Rattle.planner.specs.Settled.{Settled}
 
 pub buffers-one : (b c : Buffers) → b .cells ≡ c .cells → b .decisions ≡ c .decisions → b .delays ≡ c .delays → b ≡ c
 buffers-one b c cells decisions delays =

@@ -8,7 +8,7 @@ use mathlib.Core.Path.{_≡_}
 use Rattle.line.specs.Cells.{Book}
 use Rattle.cells.specs.Place.{tableOf, RowsWorked}
 use Rattle.walk.specs.Walked.{Walked}
-use Rattle.settle.specs.Buffers.{Buffers}
+use Rattle.planner.specs.Buffers.{Buffers}
 
 pub record Settled (B : Book) (t : ℕ) (before after : Buffers) (n : ℕ) : Type 0 where
   pub cells : RowsWorked B t (before .cells) (after .cells)

@@ -2,23 +2,25 @@
 --   cellVerdict m cells k l         12 for cell (k, l) of a line of m trains
 --   rowVerdict m cells k            12 for the cells in use of row k
 --   laterVerdict m cells i          12 for the rows after train i, the first first
---   ownVerdict m i v cells          11, 6, 12 for a report of v minutes for train i
+--   reportChecks m i v              11 and 6 for a report of v minutes for train i
+--   ownVerdict m i v cells          11, 6, 12 for that report
 --   Reportable m i v cells          none of them
 --   FirstOver m i cells k           row k is the first after train i with a cell in use over the limit
 -- Assumes nothing.
 use Prim.Native.Nat.{ℕ, _+_, _-_, _≤_, _<_}
-use mathlib.Core.List.{List}
-use Rattle.rail.specs.declared.Refusal.the-variants.{NoSuchTrain, NewDelay, CellOverLimit}
+use mathlib.Core.List.{List, [], _∷_}
+use Rattle.rail.specs.declared.ReportFault.the-variants.{NoSuchTrain, NewDelay, CellOverLimit}
+use Rattle.rail.specs.declared.Refusal.the-variants.{OfReport}
 use Rattle.rail.specs.declared.Verdict.{Verdict}
-use Rattle.rail.specs.declared.Verdict.the-variants.{Fine}
 use Rattle.rail.specs.Refusal.{train}
-use Rattle.rail.specs.Verdict.{refuse_when_below_, _andThen_, firstOf}
+use Rattle.rail.specs.Verdict.{Check, refuse_when_below_, verdictOf, _andThen_, firstOf}
 use Rattle.line.specs.Ranges.{limit}
 use Rattle.cells.specs.Place.{tableOf}
-use Rattle.cells.specs.Given.{LaterInRange}
+use Rattle.cells.specs.Book.{LaterInRange}
 
 unfoldable pub cellVerdict : ℕ → List ℕ → ℕ → ℕ → Verdict
-cellVerdict m cells k l = (refuse (CellOverLimit (train k)) when limit below tableOf m cells k l) andThen Fine
+cellVerdict m cells k l =
+    verdictOf ((refuse (OfReport (CellOverLimit (train k))) when limit below tableOf m cells k l) ∷ [])
 
 unfoldable pub rowVerdict : ℕ → List ℕ → ℕ → Verdict
 rowVerdict m cells k = firstOf (cellVerdict m cells k) k (m + 1 - k)
@@ -27,13 +29,17 @@ rowVerdict m cells k = firstOf (cellVerdict m cells k) k (m + 1 - k)
 unfoldable pub laterVerdict : ℕ → List ℕ → ℕ → Verdict
 laterVerdict m cells i = firstOf (rowVerdict m cells) (i + 1) (m - i)
 
--- train is 0 or over m; new delay over 1,440; then the later rows
+-- train is 0 or over m; new delay over 1,440
+unfoldable pub reportChecks : ℕ → ℕ → ℕ → List Check
+reportChecks m i v =
+    (refuse (OfReport NoSuchTrain) when i below 1)
+    ∷ (refuse (OfReport NoSuchTrain) when m below i)
+    ∷ (refuse (OfReport (NewDelay (train i))) when 1440 below v)
+    ∷ []
+
+-- these, then the later rows
 unfoldable pub ownVerdict : ℕ → ℕ → ℕ → List ℕ → Verdict
-ownVerdict m i v cells =
-    (refuse NoSuchTrain when i below 1)
-    andThen (refuse NoSuchTrain when m below i)
-    andThen (refuse (NewDelay (train i)) when 1440 below v)
-    andThen laterVerdict m cells i
+ownVerdict m i v cells = verdictOf (reportChecks m i v) andThen laterVerdict m cells i
 
 -- none of them, as plain facts
 pub record Reportable (m i v : ℕ) (cells : List ℕ) : Type 0 where
