@@ -10,28 +10,29 @@ use Rattle.lists.proofs.Order.{lt-or-ge}
 use Rattle.line.specs.Ranges.{limit, RunningInRange, BookInRange}
 use Rattle.line.proofs.Bounds as bounds
 use Rattle.cells.specs.Place.{tableOf, RowsWorked}
-use Rattle.cells.specs.Given.{boardedIn, runningIn, bookIn, RunningGiven, Given, LaterInRange, CellsInRange}
+use Rattle.cells.specs.Timing.{runningIn, TimingGiven}
+use Rattle.cells.specs.Sums.{boardedIn}
+use Rattle.cells.specs.Book.{bookIn, BookGiven, LaterInRange, CellsInRange}
 use Rattle.cells.proofs.Places.{table-past}
 use Rattle.cells.proofs.Leavers.{aboard-le}
 
-pub running-in-range : (m : ℕ) (slack source : List ℕ) → RunningGiven m slack source
-    → RunningInRange m (runningIn slack source)
-running-in-range m slack source given =
-    record { trains = given .trains; arrive = λ i x a b. omega (arith, given .most i a b) }
+pub running-in-range : (m : ℕ) (timing : List ℕ) → TimingGiven m timing → RunningInRange m (runningIn timing)
+running-in-range m timing given =
+    record { trains = given .trains; arrive = λ i x a b. omega (arith, given .source i a b) }
 
-module _ (m : ℕ) (slack source period sums : List ℕ) (given : Given m slack source period sums) where
-  pub book-in-range : BookInRange (bookIn m slack source period sums)
+module _ (m : ℕ) (timing sums : List ℕ) (given : BookGiven m timing sums) where
+  pub book-in-range : BookInRange (bookIn m timing sums)
   unfolding boardedIn
   book-in-range =
       record {
-        running = running-in-range m slack source (given .run);
-        period = given .periods .most;
+        running = running-in-range m timing (given .times);
+        period = λ s a b. given .times .period s (omega arith) b;
         leaving = given .leavers .most;
         aboard = λ k l a b c. aboard-le m sums (given .leavers) k l a (omega arith) c;
       }
 
   -- worked rows are in range by themselves, later rows if they were
-  pub worked-in-range : (t : ℕ) (before after : List ℕ) → RowsWorked (bookIn m slack source period sums) t before after
+  pub worked-in-range : (t : ℕ) (before after : List ℕ) → RowsWorked (bookIn m timing sums) t before after
       → LaterInRange m t before → CellsInRange m after
   worked-in-range t before after W later k l a b c = elim (lt-or-ge t k) [
     | inl u ↦ le-trans (le-of-eq (W .worked .stand k l u b c)) (later k l u b c)

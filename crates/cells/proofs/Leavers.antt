@@ -6,7 +6,7 @@ use Prim.Native.Nat.{ℕ, _+_, _-_, _≤_, _<_}
 use native.Mathlib.Omega.{arith}
 use Rattle.line.specs.Ranges.{everyone}
 use Rattle.line.proofs.Sums.{over, sum-over, over-none, over-first, over-split, over-same, over-add}
-use Rattle.cells.specs.Given.{leavingIn, boardedIn, aboardIn, SumsGiven}
+use Rattle.cells.specs.Sums.{leavingIn, boardedIn, aboardIn, SumsGiven}
 
 module _ (m : ℕ) (sums : List ℕ) where
   boarded-over : (k l : ℕ) → boardedIn m sums k l ≡ over l (m + 1) (leavingIn sums k)

@@ -1,6 +1,7 @@
 pub mod Places
+pub mod Times
 pub mod Leavers
 pub mod Bounded
-pub mod Summing
+pub mod Along
 pub mod Written
 pub mod Shown

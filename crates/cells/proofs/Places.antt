@@ -11,7 +11,7 @@ use lib.ListN.{getD}
 use Rattle.lists.proofs.Choice.{below-yes, below-no}
 use Rattle.lists.proofs.Order.{lt-or-ge}
 use Rattle.cells.specs.Place.{place, tableOf, InUse}
-use Rattle.cells.specs.Given.{placeOfSum}
+use Rattle.cells.specs.Sums.{placeOfSum}
 
 -- ---- places
 

@@ -1,5 +1,6 @@
-// The working cells: where they stand, the sums that they are worked from, and times and costs by
-// train and station. Nothing here writes a cell.
+// The working cells and what they are worked from: where the cells stand, the times of a line, the
+// sums of those who leave, and what the two choices cost along a run. Nothing here writes a cell.
+pub mod costs;
 pub mod place;
 pub mod sums;
-pub mod times;
+pub mod timing;

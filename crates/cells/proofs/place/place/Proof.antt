@@ -5,21 +5,9 @@ use Rattle.cells.specs.Place.{place}
 use Rattle.cells.proofs.place.place.Statement.{statement}
 use Rattle.cells.proofs.place.place.Tie as tie
 
-index-requires : tie.Need-index-requires
-index-requires c κs = search needs
-
-mul-result : tie.Need-mul-result
-mul-result c = search needs
-
-index-requires-2 : tie.Need-index-requires-2
-index-requires-2 c κs = search needs
-
-add-result : tie.Need-add-result
-add-result c = search needs
-
 returns : tie.Need-returns
 unfolding place
 returns c = search needs
 
 pub place-spec : {M : Type 1} → statement M
-place-spec = tie.close (tie.spec index-requires mul-result index-requires-2 add-result returns)
+place-spec = tie.close (tie.spec (λ c κs. search needs) (λ c. search needs) (λ c κs. search needs) (λ c. search needs) returns)

@@ -5,7 +5,7 @@ use mathlib.Core.Path.{_≡_, sym, ap, _∙_}
 use Prim.Native.Nat.{_+_, _-_, _≤_}
 use native.Mathlib.Omega.{arith}
 use Rattle.line.specs.Ranges.{everyone}
-use Rattle.cells.specs.Given.{boardedIn}
+use Rattle.cells.specs.Sums.{boardedIn}
 use Rattle.cells.proofs.Leavers.{boarded-none, boarded-first, boarded-le}
 use Rattle.cells.proofs.sums.boarded.Statement.{statement}
 use Rattle.cells.proofs.sums.boarded.Tie as tie

@@ -5,7 +5,7 @@ use mathlib.Core.Path.{_≡_, ap, _∙_}
 use Prim.Native.Nat.{ℕ}
 use native.Mathlib.Nat.{le-trans, le-of-eq}
 use lib.ListN.{getD}
-use Rattle.cells.specs.Given.{leavingIn}
+use Rattle.cells.specs.Sums.{leavingIn}
 use Rattle.cells.proofs.Leavers.{leaving-le}
 use Rattle.cells.proofs.sums.leaving.Statement.{statement}
 use Rattle.cells.proofs.sums.leaving.Tie as tie

@@ -1,10 +1,10 @@
--- `times::cost` meets its contract: the product is at most the limit.
+-- `timing::cost` meets its contract: the product is at most the limit.
 -- Assumes nothing.
 use mathlib.Core.Path.{refl}
 use native.Mathlib.Nat.{mul-le-mul}
 use native.Mathlib.Omega.{arith}
-use Rattle.cells.proofs.times.cost.Statement.{statement}
-use Rattle.cells.proofs.times.cost.Tie as tie
+use Rattle.cells.proofs.timing.cost.Statement.{statement}
+use Rattle.cells.proofs.timing.cost.Tie as tie
 
 mul-result : tie.Need-mul-result
 mul-result c = omega (arith, mul-le-mul (c .pre .0) (c .pre .1))
