@@ -1,1 +1,4 @@
-pub mod Outcome
+pub mod ReadingOf
+pub mod Columns
+pub mod Decoded
+pub mod Stored

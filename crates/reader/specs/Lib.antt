@@ -1,2 +1,3 @@
+pub mod Reading
+pub mod Decoded
 pub mod Read
-pub mod Stored

@@ -6,8 +6,8 @@ use Prim.Native.Nat.{ℕ}
 use Rattle.rail.specs.declared.Verdict.{Verdict}
 use Rattle.rail.specs.declared.Verdict.the-variants.{Fine, Refused}
 use Rattle.rail.specs.Refusal.{numberOf, placeOf}
-use Rattle.decoder.specs.declared.Reading.{Reading}
-use Rattle.decoder.specs.declared.Reading.the-variants.{Accepted, Refused as ReadRefused}
+use Rattle.reader.specs.declared.Reading.{Reading}
+use Rattle.reader.specs.declared.Reading.the-variants.{Accepted, Refused as ReadRefused}
 
 -- accepted answers carry number and place 0; refused ones carry number and place, and 0 for m and T
 abbrev pub readNumber : Reading → ℕ

@@ -7,11 +7,8 @@ use Rattle.rail.proofs.Checks.{hit, miss}
 use Rattle.sheet.specs.Format.{bitsOf}
 use Rattle.sheet.specs.Checks.{fillingVerdict}
 use Rattle.sheet.proofs.Lengths.{bits-le, bytes-bits}
-use Rattle.decoder.proofs.check_filling.Statement.{statement}
-use Rattle.decoder.proofs.check_filling.Tie as tie
-
-bits-of-requires : tie.Need-bits-of-requires
-bits-of-requires c κs = search needs
+use Rattle.reader.proofs.decoding.check_filling.Statement.{statement}
+use Rattle.reader.proofs.decoding.check_filling.Tie as tie
 
 -- eight times the bytes of 64 trains is small
 mul-field : tie.Need-mul-field
@@ -51,4 +48,4 @@ returns-2 c =
 
 pub check-filling-spec : {M : Type 1} → statement M
 check-filling-spec =
-    tie.close (tie.spec bits-of-requires mul-field sub-field field-requires returns returns-2)
+    tie.close (tie.spec (λ c κs. search needs) mul-field sub-field field-requires returns returns-2)

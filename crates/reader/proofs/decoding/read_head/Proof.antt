@@ -8,65 +8,48 @@ use Rattle.rail.proofs.Checks.{hit, miss, then-stop, then-pass}
 use Rattle.sheet.specs.Format.{trainsOf, periodOf, bytesOf}
 use Rattle.sheet.specs.Checks.{rangesVerdict, headVerdict}
 use Rattle.sheet.proofs.Facts.{ranges-of-fine}
-use Rattle.decoder.proofs.Answers.{reading-refused, reading-accepted}
-use Rattle.decoder.proofs.read_head.Statement.{statement}
-use Rattle.decoder.proofs.read_head.Tie as tie
+use Rattle.reader.proofs.ReadingOf.{reading-refused, reading-accepted}
+use Rattle.reader.proofs.decoding.read_head.Statement.{statement}
+use Rattle.reader.proofs.decoding.read_head.Tie as tie
 
 -- from where m and T are checked back to the entry
 abbrev entry-of : tie.After-check-ranges → tie.Start
 entry-of c = c .before .before .before .before .before
+
+-- what is said of m and T is said of the sheet's
+ranges : (c : tie.After-check-ranges) →
+    let s = entry-of c .args .sheet .now in
+    c .check-ranges .result ≡ rangesVerdict (trainsOf s) (periodOf s)
+ranges c =
+    c .check-ranges .ensures ∙ ap₂ rangesVerdict (c .before .before .field .ensures) (c .before .field2 .ensures)
+
+-- m and T passed
+passed : (c : tie.After-enum-told) →
+    let s = entry-of (c .before .before) .args .sheet .now in
+    rangesVerdict (trainsOf s) (periodOf s) ≡ Fine
+passed c = sym (ranges (c .before .before)) ∙ c .enum-told .given .1
+
+-- the length that m demands
+demanded : (c : tie.After-bytes-of) →
+    c .bytes-of .result ≡ bytesOf (trainsOf (entry-of (c .before .before .before) .args .sheet .now))
+demanded c = c .bytes-of .ensures ∙ ap bytesOf (c .before .before .before .before .before .field .ensures)
 
 -- the sheet is under 3 bytes
 returns : tie.Need-returns
 unfolding headVerdict
 returns c = reading-refused _ _ _ (hit _ _ _ _ (omega arith))
 
-field-requires : tie.Need-field-requires
-field-requires c κs = search needs
-
-field-requires-2 : tie.Need-field-requires-2
-field-requires-2 c κs = search needs
-
-check-ranges-requires : tie.Need-check-ranges-requires
-check-ranges-requires c κs = search needs
-
-enum-known-ranges : tie.Need-enum-known-ranges
-enum-known-ranges c = search needs
-
 -- m or T is refused
 returns-2 : tie.Need-returns-2
 unfolding headVerdict
 returns-2 c =
-    let checked = c .before .before .before in
-    let ranges = checked .check-ranges .ensures
-    ∙ ap₂ rangesVerdict (checked .before .before .field .ensures) (checked .before .field2 .ensures) in
     reading-refused _ _ _
-    (miss _ _ _ _ _ (omega arith) (then-stop _ _ refl (sym (c .before .ranges .given .1) ∙ ranges)))
-
-enum-told : tie.Need-enum-told
-enum-told c = search needs
-
-cast-bytes-of : tie.Need-cast-bytes-of
-cast-bytes-of c = search needs
-
--- m and T passed
-passed : (c : tie.After-enum-told) →
-    let s = entry-of (c .before .before) .args .sheet .now in
-    rangesVerdict (trainsOf s) (periodOf s) ≡ Fine
-passed c =
-    let checked = c .before .before in
-    sym (ap₂ rangesVerdict (checked .before .before .field .ensures) (checked .before .field2 .ensures))
-    ∙ sym (checked .check-ranges .ensures)
-    ∙ c .enum-told .given .1
+    (miss _ _ _ _ _ (omega arith)
+    (then-stop _ _ refl (sym (c .before .ranges .given .1) ∙ ranges (c .before .before .before))))
 
 bytes-of-requires : tie.Need-bytes-of-requires
 bytes-of-requires c κs =
     omega (arith, ranges-of-fine _ _ (passed c) .trains-most, c .before .before .before .before .field .ensures)
-
--- the length that m demands
-demanded : (c : tie.After-bytes-of) →
-    c .bytes-of .result ≡ bytesOf (trainsOf (entry-of (c .before .before .before) .args .sheet .now))
-demanded c = c .bytes-of .ensures ∙ ap bytesOf (c .before .before .before .before .before .field .ensures)
 
 -- the sheet is shorter than m demands
 returns-3 : tie.Need-returns-3
@@ -109,13 +92,13 @@ read-head-spec =
     tie.close
     (tie.spec
     returns
-    field-requires
-    field-requires-2
-    check-ranges-requires
-    enum-known-ranges
+    (λ c κs. search needs)
+    (λ c κs. search needs)
+    (λ c κs. search needs)
+    (λ c. search needs)
     returns-2
-    enum-told
-    cast-bytes-of
+    (λ c. search needs)
+    (λ c. search needs)
     bytes-of-requires
     returns-3
     returns-4
