@@ -54,26 +54,26 @@ decode-one s before after after′ a a′ g h = (
 
 -- ---- its two ends
 
-module _ (s : List ℕ) (before : Lists) where
+module _ (s : List ℕ) (before : Lists) {a : Reading} where
   -- a head that is refused
-  pub decoded-head-refused : {r : Refusal} → ReadRefused r ≡ readingOf (headVerdict s) (trainsOf s) (periodOf s)
-      → Decoded s before before (ReadRefused r)
+  pub decoded-head-refused : {r : Refusal} → a ≡ ReadRefused r
+      → a ≡ readingOf (headVerdict s) (trainsOf s) (periodOf s) → Decoded s before before a
   unfolding sheetVerdict
-  decoded-head-refused e =
-      let refused = refused-verdict (headVerdict s) _ _ e in
+  decoded-head-refused p e =
+      let refused = refused-verdict (headVerdict s) _ _ (sym p ∙ e) in
       record {
-        answer = reading-refused _ _ _ (then-stop _ _ refl (sym refused));
+        answer = p ∙ reading-refused _ _ _ (then-stop _ _ refl (sym refused));
         filled = λ fine. refused-not-fine (sym refused ∙ fine);
         kept = λ q r. refl;
       }
 
   -- a head that passed: the body decides
-  pub decoded-body : (after : Lists) {a : Reading} → headVerdict s ≡ Fine
+  pub decoded-body : (after : Lists) → headVerdict s ≡ Fine
       → a ≡ readingOf (bodyVerdict s) (trainsOf s) (periodOf s) → ColumnsRead s before after → Decoded s before after a
   unfolding sheetVerdict
   decoded-body after fine e columns =
       record {
-        answer = e ∙ ap (λ v. readingOf v (trainsOf s) (periodOf s)) (then-pass (headVerdict s) (bodyVerdict s) _ fine refl);
+        answer = e ∙ ap (λ v. readingOf v (trainsOf s) (periodOf s)) (then-pass (headVerdict s) _ _ fine refl);
         filled = λ _. columns;
         kept = λ q refused. refused-not-fine (sym refused ∙ fine);
       }

@@ -1,107 +1,93 @@
+-- `decode` meets its contract: the head's refusal if there is one, else the columns and the body's verdict.
+-- Assumes nothing.
 use borrow.Author.Needs.{needs}
+use mathlib.Core.Path.{_≡_, refl, sym, _∙_}
+use Rattle.rail.specs.declared.Verdict.the-variants.{Fine}
+use Rattle.sheet.specs.Format.{trainsOf, periodOf}
+use Rattle.sheet.specs.Checks.{headVerdict}
+use Rattle.reader.proofs.ReadingOf.{reading-refused, reading-accepted, accepted-fine}
+use Rattle.reader.proofs.Columns.{columns-lengths, columns-numbers}
+use Rattle.reader.proofs.Decoded.{decoded-head-refused, decoded-body, head-of-fine}
 use Rattle.reader.proofs.decoding.decode.Statement.{statement}
 use Rattle.reader.proofs.decoding.decode.Tie as tie
-use Rattle.reader.proofs.decoding.decode.Reads as reads
-use Rattle.reader.proofs.decoding.decode.Lts as lts
-use Rattle.reader.proofs.decoding.check_body.Reads as check-body-reads
-use Rattle.reader.proofs.decoding.read_columns.Reads as read-columns-reads
-use Rattle.reader.proofs.decoding.read_head.Reads as read-head-reads
 
--- src/decoding.rt:141:9
-read-head-requires : tie.Need-read-head-requires
-read-head-requires c κs = search needs
+-- from the checks of the body back to the columns, from there to the head that passed, and to the entry
+abbrev columns-of : tie.After-check-body → tie.After-read-columns
+columns-of c = c .before .before .before .before .before .before .before .before .before .before .before .before .before
 
--- src/decoding.rt:142:27
-enum-known-head : tie.Need-enum-known-head
-enum-known-head c = search needs
+abbrev head-of : tie.After-read-columns → tie.After-head
+head-of c = c .before .before .before .before .before .before
 
--- src/decoding.rt:143:9
-enum-told : tie.Need-enum-told
-enum-told c = search needs
+abbrev entry-of : tie.After-head → tie.Start
+entry-of c = c .before .before .before .before .before .before .before .before
 
--- src/decoding.rt:143:9
+-- what a head that passed tells
+passed : (c : tie.After-head) →
+    let s = entry-of c .args .sheet .now in
+    (headVerdict s ≡ Fine) × (c .head .given .0 .0 ≡ trainsOf s) × (c .head .given .0 .1 .0 ≡ periodOf s)
+passed c = accepted-fine (headVerdict _) _ _ (sym (c .head .given .1) ∙ c .before .before .read-head .ensures)
+
+-- the head is refused
 returns : tie.Need-returns
-returns c = ?
+returns c = decoded-head-refused _ _ (c .enum-told .given .1) (c .before .before .read-head .ensures)
 
--- src/decoding.rt:145:25
-cast-read-columns : tie.Need-cast-read-columns
-cast-read-columns c = search needs
-
--- src/decoding.rt:145:5
+-- the head passed, and the lists are those that were lent
 read-columns-requires : tie.Need-read-columns-requires
-read-columns-requires c κs = ?
+read-columns-requires c κs =
+    let head = c .before .before .before .before .before in
+    (head-of-fine _ _ (passed head .0) (passed head .1), entry-of head .pre)
 
--- src/decoding.rt:146:9
+-- the columns hold the sheet's numbers
 check-body-requires : tie.Need-check-body-requires
-check-body-requires c κs = ?
+check-body-requires c κs =
+    let columns = c .before .before .before .before .before .before .before .before .before .before .before .before in
+    let head = head-of columns in
+    let read = columns .read-columns .ensures in
+    record {
+      head = head-of-fine _ _ (passed head .0) (passed head .1);
+      lengths = columns-lengths _ _ _ read (entry-of head .pre);
+      numbers = columns-numbers _ _ _ read _ _ (passed head .1) refl;
+    }
 
--- src/decoding.rt:147:29
-enum-known-body : tie.Need-enum-known-body
-enum-known-body c = search needs
-
--- src/decoding.rt:148:9
-same-length : tie.Need-same-length
-same-length c = search needs
-
--- src/decoding.rt:148:9
-same-length-2 : tie.Need-same-length-2
-same-length-2 c = search needs
-
--- src/decoding.rt:148:9
-same-length-3 : tie.Need-same-length-3
-same-length-3 c = search needs
-
--- src/decoding.rt:148:9
-same-length-4 : tie.Need-same-length-4
-same-length-4 c = search needs
-
--- src/decoding.rt:148:9
+-- the body is refused
 returns-2 : tie.Need-returns-2
-returns-2 c = ?
+returns-2 c =
+    let checked = c .before .before .before in
+    let columns = columns-of checked in
+    decoded-body _ _ _ (passed (head-of columns) .0)
+    (reading-refused _ _ _ (sym (c .before .body .given .1) ∙ checked .check-body .ensures))
+    (columns .read-columns .ensures)
 
-enum-told-2 : tie.Need-enum-told-2
-enum-told-2 c = search needs
-
--- src/decoding.rt:125:1
-same-length-5 : tie.Need-same-length-5
-same-length-5 c = search needs
-
--- src/decoding.rt:125:1
-same-length-6 : tie.Need-same-length-6
-same-length-6 c = search needs
-
--- src/decoding.rt:125:1
-same-length-7 : tie.Need-same-length-7
-same-length-7 c = search needs
-
--- src/decoding.rt:125:1
-same-length-8 : tie.Need-same-length-8
-same-length-8 c = search needs
-
--- src/decoding.rt:125:1
+-- nothing is refused
 returns-3 : tie.Need-returns-3
-returns-3 c = ?
+returns-3 c =
+    let checked = c .before .before in
+    let columns = columns-of checked in
+    let told = passed (head-of columns) in
+    decoded-body _ _ _ (told .0)
+    (reading-accepted _ (sym (c .enum-told2 .given .1) ∙ checked .check-body .ensures) (told .1) (told .2))
+    (columns .read-columns .ensures)
 
 pub decode-spec : {M : Type 1} → statement M
 decode-spec =
     tie.close
     (tie.spec
-    read-head-requires
-    enum-known-head
-    enum-told
+    (λ c κs. search needs)
+    (λ c. search needs)
+    (λ c. search needs)
     returns
-    cast-read-columns
+    (λ c. search needs)
     read-columns-requires
     check-body-requires
-    enum-known-body
-    same-length
-    same-length-2
-    same-length-3
-    same-length-4
+    (λ c. search needs)
+    (λ c. search needs)
+    (λ c. search needs)
+    (λ c. search needs)
+    (λ c. search needs)
     returns-2
-    enum-told-2
-    same-length-5
-    same-length-6
-    same-length-7
-    same-length-8
+    (λ c. search needs)
+    (λ c. search needs)
+    (λ c. search needs)
+    (λ c. search needs)
+    (λ c. search needs)
     returns-3)

@@ -1,86 +1,101 @@
+-- `read_columns` meets its contract: every field lies within the sheet, and each list is filled with its column.
+-- Assumes nothing.
 use borrow.Author.Needs.{needs}
+use mathlib.Core.Path.{_≡_, ap, _∙_}
+use mathlib.Core.List.{List}
+use Prim.Native.Nat.{ℕ}
+use native.Mathlib.Omega.{arith}
+use lib.Dec.{lit≤}
+use Rattle.lists.specs.Filled.{Filled}
+use Rattle.sheet.specs.declared.format.Column.{Column}
+use Rattle.sheet.specs.Format.{entry, passengerColumn, pairsOf}
+use Rattle.reader.proofs.Columns.{train-room, passenger-room}
 use Rattle.reader.proofs.decoding.read_columns.Statement.{statement}
 use Rattle.reader.proofs.decoding.read_columns.Tie as tie
-use Rattle.reader.proofs.decoding.read_columns.Reads as reads
-use Rattle.reader.proofs.decoding.read_columns.Lts as lts
-use Rattle.reader.proofs.decoding.read_column.Reads as read-column-reads
-use Rattle.sheet.proofs.format.Column.delays.Reads as delays-reads
-use Rattle.sheet.proofs.format.Column.departures.Reads as departures-reads
-use Rattle.sheet.proofs.format.Column.driving.Reads as driving-reads
-use Rattle.sheet.proofs.format.Column.passengers.Reads as passengers-reads
-use Rattle.sheet.proofs.format.pairs_of.Reads as pairs-of-reads
 
--- src/decoding.rt:85:36
-departures-requires : tie.Need-departures-requires
-departures-requires c κs = search needs
+-- from each column back to the one before it, and from the first to the entry
+abbrev delays-of : tie.After-read-column4 → tie.After-read-column3
+delays-of c = c .before .before .before .before .before .before
 
--- src/decoding.rt:85:5
+abbrev driving-of : tie.After-read-column3 → tie.After-read-column2
+driving-of c = c .before .before .before .before .before
+
+abbrev departures-of : tie.After-read-column2 → tie.After-read-column
+departures-of c = c .before .before .before .before .before
+
+abbrev entry-of : tie.After-read-column → tie.Start
+entry-of c = c .before .before .before .before .before .before .before .before
+
+-- the departures: 12 bits from bit 18
 read-column-requires : tie.Need-read-column-requires
-read-column-requires c κs = ?
+read-column-requires c κs =
+    let start = c .before .before .before .before .before .before .before in
+    rw (c .departures .ensures)
+    (train-room _ _ (start .pre .0) 18 12 _ (lit≤ tt) (lit≤ tt) (start .pre .1 .departures))
 
--- src/decoding.rt:86:33
-driving-requires : tie.Need-driving-requires
-driving-requires c κs = search needs
-
--- src/decoding.rt:86:5
+-- the driving times: 10 bits from bit 30
 read-column-requires-2 : tie.Need-read-column-requires-2
-read-column-requires-2 c κs = ?
+read-column-requires-2 c κs =
+    let start = entry-of (c .before .before .before .before) in
+    rw (c .driving .ensures)
+    (train-room _ _ (start .pre .0) 30 10 _ (lit≤ tt) (lit≤ tt) (start .pre .1 .driving))
 
--- src/decoding.rt:87:32
-delays-requires : tie.Need-delays-requires
-delays-requires c κs = search needs
-
--- src/decoding.rt:87:5
+-- the delays: 11 bits from bit 40
 read-column-requires-3 : tie.Need-read-column-requires-3
-read-column-requires-3 c κs = ?
+read-column-requires-3 c κs =
+    let start = entry-of (departures-of (c .before .before .before .before)) in
+    rw (c .delays .ensures)
+    (train-room _ _ (start .pre .0) 40 11 _ (lit≤ tt) (lit≤ tt) (start .pre .1 .delays))
 
--- src/decoding.rt:88:36
-passengers-requires : tie.Need-passengers-requires
-passengers-requires c κs = search needs
-
--- src/decoding.rt:88:59
 pairs-of-requires : tie.Need-pairs-of-requires
-pairs-of-requires c κs = ?
+pairs-of-requires c κs =
+    entry-of (departures-of (driving-of (c .before .before .before .before))) .pre .0 .most
 
--- src/decoding.rt:88:5
+-- the passengers: 14 bits each, behind the trains
 read-column-requires-4 : tie.Need-read-column-requires-4
-read-column-requires-4 c κs = ?
+read-column-requires-4 c κs =
+    let start = entry-of (departures-of (driving-of (c .before .before .before .before .before))) in
+    rw (c .before .passengers .ensures, c .pairs-of .ensures)
+    (passenger-room _ _ (start .pre .0) _ (start .pre .1 .passengers))
 
--- src/decoding.rt:68:1
-same-length : tie.Need-same-length
-same-length c = search needs
+-- a list filled from a column that is c, with n places
+filled-column : (s : List ℕ) {old new : List ℕ} {n n′ : ℕ} {c c′ : Column} → n ≡ n′ → c ≡ c′ → Filled 0 (entry s c) n old new
+    → Filled 0 (entry s c′) n′ old new
+filled-column s p q h = rw (p, q) at h
 
--- src/decoding.rt:68:1
-same-length-2 : tie.Need-same-length-2
-same-length-2 c = search needs
-
--- src/decoding.rt:68:1
-same-length-3 : tie.Need-same-length-3
-same-length-3 c = search needs
-
--- src/decoding.rt:68:1
-same-length-4 : tie.Need-same-length-4
-same-length-4 c = search needs
-
--- src/decoding.rt:68:1
+-- column by column, what was read is what the sheet has
 returns : tie.Need-returns
-returns c = ?
+returns c =
+    let passengers = c .before .before in
+    let delays = delays-of passengers in
+    let driving = driving-of delays in
+    let departures = departures-of driving in
+    let trains = entry-of departures .pre .0 .trains in
+    record {
+      departures = filled-column _ trains (departures .before .departures .ensures) (departures .read-column .ensures);
+      driving = filled-column _ trains (driving .before .driving .ensures) (driving .read-column2 .ensures);
+      delays = filled-column _ trains (delays .before .delays .ensures) (delays .read-column3 .ensures);
+      passengers =
+          filled-column _ (passengers .before .pairs-of .ensures ∙ ap pairsOf trains)
+          (passengers .before .before .passengers .ensures ∙ ap passengerColumn trains)
+          (passengers .read-column4 .ensures);
+    }
 
 pub read-columns-spec : {M : Type 1} → statement M
 read-columns-spec =
     tie.close
     (tie.spec
-    departures-requires
+    (λ c κs. search needs)
     read-column-requires
-    driving-requires
+    (λ c κs. search needs)
     read-column-requires-2
-    delays-requires
+    (λ c κs. search needs)
     read-column-requires-3
-    passengers-requires
+    (λ c κs. search needs)
     pairs-of-requires
     read-column-requires-4
-    same-length
-    same-length-2
-    same-length-3
-    same-length-4
+    (λ c. search needs)
+    (λ c. search needs)
+    (λ c. search needs)
+    (λ c. search needs)
     returns)
