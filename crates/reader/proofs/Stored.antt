@@ -1,49 +1,72 @@
 -- What read leaves, refused and accepted; and that its promise leaves nothing open.
 -- Assumes nothing.
-use mathlib.Core.Path.{_≡_, refl, sym, _∙_}
+use mathlib.Core.Path.{_≡_, refl, sym, ap, subst, _∙_}
 use mathlib.Core.List.{List}
 use Prim.Native.Nat.{ℕ}
 use lib.ListN.{replicate}
 use Rattle.lists.proofs.Fill.{filled-padded}
 use Rattle.rail.specs.declared.Refusal.{Refusal}
-use Rattle.rail.specs.declared.Verdict.the-variants.{Fine, Refused}
-use Rattle.rail.proofs.Checks.{if-fine, if-refused}
+use Rattle.rail.specs.declared.Verdict.{Verdict}
+use Rattle.rail.specs.declared.Verdict.the-variants.{Refused}
+use Rattle.rail.proofs.Checks.{if-fine, if-refused, then-pass}
 use Rattle.sheet.specs.Format.{trainsOf, periodOf}
 use Rattle.sheet.specs.Numbers.{Lists, lists}
+use Rattle.sheet.specs.Checks.{sheetVerdict}
+use Rattle.sheet.specs.Accepted.{Lengths}
+use Rattle.sheet.proofs.Facts.{fine-of-lengths}
 use Rattle.reader.specs.declared.Reading.{Reading}
-use Rattle.reader.specs.declared.Reading.the-variants.{Refused as ReadRefused}
+use Rattle.reader.specs.declared.Reading.the-variants.{Accepted, Refused as ReadRefused}
 use Rattle.reader.specs.Reading.{readingOf}
-use Rattle.reader.specs.Decoded.{ColumnsRead}
+use Rattle.reader.specs.Decoded.{Decoded}
 use Rattle.reader.specs.Read.{readVerdict, Read}
-use Rattle.reader.proofs.ReadingOf.{reading-refused, reading-accepted}
+use Rattle.reader.proofs.ReadingOf.{reading-refused, accepted-fine, refused-verdict}
+use Rattle.reader.proofs.Decoded.{decoded-columns}
+
+-- a refusal changes nothing
+pub read-refused : (s : List ℕ) (before : Lists) {a : Reading} {r : Refusal} → a ≡ ReadRefused r
+    → Refused r ≡ readVerdict s before → Read s before before a
+read-refused s before p e =
+    record {
+      answer = p ∙ reading-refused _ _ _ e;
+      departures = if-refused _ _ _ e;
+      driving = if-refused _ _ _ e;
+      delays = if-refused _ _ _ e;
+      passengers = if-refused _ _ _ e;
+    }
 
 -- four lists of zeros, as read lends them to decode
 abbrev pub zeros : Lists
 zeros = lists (replicate 64 0) (replicate 64 0) (replicate 64 0) (replicate 2080 0)
 
-module _ (s : List ℕ) (before : Lists) {a : Reading} where
-  -- a refusal changes nothing
-  pub read-refused : {r : Refusal} → a ≡ ReadRefused r → Refused r ≡ readVerdict s before → Read s before before a
-  read-refused p e =
-      record {
-        answer = p ∙ reading-refused _ _ _ e;
-        departures = if-refused _ _ _ e;
-        driving = if-refused _ _ _ e;
-        delays = if-refused _ _ _ e;
-        passengers = if-refused _ _ _ e;
-      }
+-- ---- where the lent lists have their lengths, and the sheet was decoded into lists of zeros
 
-  -- an accepted sheet stands in the lists as in lists of zeros
-  pub read-accepted : (after : Lists) → a ≡ readingOf Fine (trainsOf s) (periodOf s) → Fine ≡ readVerdict s before
-      → ColumnsRead s zeros after → Read s before after a
-  read-accepted after p e h =
-      record {
-        answer = p ∙ reading-accepted _ e refl refl;
-        departures = filled-padded _ 64 _ (h .departures) ∙ if-fine _ _ _ e;
-        driving = filled-padded _ 64 _ (h .driving) ∙ if-fine _ _ _ e;
-        delays = filled-padded _ 64 _ (h .delays) ∙ if-fine _ _ _ e;
-        passengers = filled-padded _ 2080 _ (h .passengers) ∙ if-fine _ _ _ e;
-      }
+module _ (s : List ℕ) (before : Lists) (room : Lengths 64 2080 before) (got : Lists) {a : Reading}
+    (h : Decoded s zeros got a) where
+  sheet-decides : sheetVerdict s ≡ readVerdict s before
+  unfolding readVerdict
+  sheet-decides = then-pass _ _ _ (fine-of-lengths _ _ _ _ room) refl
+
+  -- a sheet that is refused
+  pub refused-read : {r : Refusal} → a ≡ ReadRefused r → Read s before before a
+  refused-read p =
+      read-refused s before p (sym (refused-verdict (sheetVerdict s) _ _ (sym p ∙ h .answer)) ∙ sheet-decides)
+
+  -- one that is accepted, copied into the lent lists
+  pub accepted-read : {m T : ℕ} (after : Lists) → a ≡ Accepted m T → after ≡ got → Read s before after a
+  accepted-read after p same =
+      let fine = accepted-fine (sheetVerdict s) _ _ (sym p ∙ h .answer) .0 in
+      let e = sym fine ∙ sheet-decides in
+      let columns = decoded-columns s zeros got a h fine in
+      subst (λ (L : Lists). Read s before L a) (sym same)
+      (record {
+        answer = h .answer ∙ ap (λ (v : Verdict). readingOf v (trainsOf s) (periodOf s)) sheet-decides;
+        departures = filled-padded _ 64 _ (columns .departures) ∙ if-fine _ _ _ e;
+        driving = filled-padded _ 64 _ (columns .driving) ∙ if-fine _ _ _ e;
+        delays = filled-padded _ 64 _ (columns .delays) ∙ if-fine _ _ _ e;
+        passengers = filled-padded _ 2080 _ (columns .passengers) ∙ if-fine _ _ _ e;
+      })
+
+-- ---- no choice
 
 -- two outcomes that keep read's promise are equal
 pub read-one : (s : List ℕ) (before after after′ : Lists) (a a′ : Reading) → Read s before after a

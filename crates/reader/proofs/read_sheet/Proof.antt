@@ -1,116 +1,69 @@
+-- `read_sheet` meets its contract: a refused sheet changes nothing, an accepted one is copied.
+-- Assumes nothing.
 use borrow.Author.Needs.{needs}
+use Rattle.sheet.specs.Numbers.{lists}
+use Rattle.reader.proofs.Stored.{refused-read, accepted-read}
 use Rattle.reader.proofs.read_sheet.Statement.{statement}
 use Rattle.reader.proofs.read_sheet.Tie as tie
-use Rattle.reader.proofs.read_sheet.Reads as reads
-use Rattle.reader.proofs.read_sheet.Lts as lts
-use Rattle.lists.proofs.copy_u32.Reads as copy-u32-reads
-use Rattle.reader.proofs.decoding.decode.Reads as decode-reads
 
--- src/lib.rt:86:32
-slice-aggregate-decode : tie.Need-slice-aggregate-decode
-slice-aggregate-decode c = search needs
+-- from each copy back to the one before it, and from the first over `decode` to the entry
+abbrev delays-of : tie.After-copy-u324 → tie.After-copy-u323
+delays-of c = c .before .before .before .before .before
 
--- src/lib.rt:86:53
-slice-aggregate-decode-2 : tie.Need-slice-aggregate-decode-2
-slice-aggregate-decode-2 c = search needs
+abbrev driving-of : tie.After-copy-u323 → tie.After-copy-u322
+driving-of c = c .before .before .before .before .before
 
--- src/lib.rt:86:71
-slice-aggregate-decode-3 : tie.Need-slice-aggregate-decode-3
-slice-aggregate-decode-3 c = search needs
+abbrev departures-of : tie.After-copy-u322 → tie.After-copy-u32
+departures-of c = c .before .before .before .before .before
 
--- src/lib.rt:86:88
-slice-aggregate-decode-4 : tie.Need-slice-aggregate-decode-4
-slice-aggregate-decode-4 c = search needs
+abbrev told-of : tie.After-copy-u32 → tie.After-enum-told2
+told-of c = c .before .before .before
 
--- src/lib.rt:86:9
-decode-requires : tie.Need-decode-requires
-decode-requires c κs = search needs
+abbrev entry-of : tie.After-decode → tie.Start
+entry-of c = c .before .before .before .before .before .before .before .before .before .before
 
--- src/lib.rt:88:9
-enum-told : tie.Need-enum-told
-enum-told c = search needs
-
--- src/lib.rt:88:9
+-- the sheet is refused
 returns : tie.Need-returns
-returns c = ?
+returns c =
+    let decoded = c .before .before .before .before .before .before in
+    refused-read _ _ (entry-of decoded .pre) _ (decoded .decode .ensures) (c .enum-told .given .1)
 
-enum-told-2 : tie.Need-enum-told-2
-enum-told-2 c = search needs
-
--- src/lib.rt:90:26
-slice-aggregate-copy-u32 : tie.Need-slice-aggregate-copy-u32
-slice-aggregate-copy-u32 c = search needs
-
--- src/lib.rt:90:5
-copy-u32-requires : tie.Need-copy-u32-requires
-copy-u32-requires c κs = search needs
-
--- src/lib.rt:91:23
-slice-aggregate-copy-u32-2 : tie.Need-slice-aggregate-copy-u32-2
-slice-aggregate-copy-u32-2 c = search needs
-
--- src/lib.rt:91:5
-copy-u32-requires-2 : tie.Need-copy-u32-requires-2
-copy-u32-requires-2 c κs = search needs
-
--- src/lib.rt:92:22
-slice-aggregate-copy-u32-3 : tie.Need-slice-aggregate-copy-u32-3
-slice-aggregate-copy-u32-3 c = search needs
-
--- src/lib.rt:92:5
-copy-u32-requires-3 : tie.Need-copy-u32-requires-3
-copy-u32-requires-3 c κs = search needs
-
--- src/lib.rt:93:26
-slice-aggregate-copy-u32-4 : tie.Need-slice-aggregate-copy-u32-4
-slice-aggregate-copy-u32-4 c = search needs
-
--- src/lib.rt:93:5
-copy-u32-requires-4 : tie.Need-copy-u32-requires-4
-copy-u32-requires-4 c κs = search needs
-
--- src/lib.rt:66:1
-same-length : tie.Need-same-length
-same-length c = search needs
-
--- src/lib.rt:66:1
-same-length-2 : tie.Need-same-length-2
-same-length-2 c = search needs
-
--- src/lib.rt:66:1
-same-length-3 : tie.Need-same-length-3
-same-length-3 c = search needs
-
--- src/lib.rt:66:1
-same-length-4 : tie.Need-same-length-4
-same-length-4 c = search needs
-
--- src/lib.rt:66:1
+-- the sheet is accepted
 returns-2 : tie.Need-returns-2
-returns-2 c = ?
+returns-2 c =
+    let passengers = c .before .before in
+    let delays = delays-of passengers in
+    let driving = driving-of delays in
+    let departures = departures-of driving in
+    let told = told-of departures in
+    let decoded = told .before .before .before .before .before .before in
+    accepted-read _ _ (entry-of decoded .pre) _ (decoded .decode .ensures) _ (told .enum-told2 .given .1)
+    (λ i.
+    lists (departures .copy-u32 .ensures i) (driving .copy-u322 .ensures i) (delays .copy-u323 .ensures i)
+    (passengers .copy-u324 .ensures i))
 
 pub read-sheet-spec : {M : Type 1} → statement M
 read-sheet-spec =
     tie.close
     (tie.spec
-    slice-aggregate-decode
-    slice-aggregate-decode-2
-    slice-aggregate-decode-3
-    slice-aggregate-decode-4
-    decode-requires
-    enum-told
+    (λ c. search needs)
+    (λ c. search needs)
+    (λ c. search needs)
+    (λ c. search needs)
+    (λ c κs. search needs)
+    (λ c. search needs)
     returns
-    enum-told-2
-    slice-aggregate-copy-u32
-    copy-u32-requires
-    slice-aggregate-copy-u32-2
-    copy-u32-requires-2
-    slice-aggregate-copy-u32-3
-    copy-u32-requires-3
-    slice-aggregate-copy-u32-4
-    copy-u32-requires-4
-    same-length
-    same-length-2
-    same-length-3
-    same-length-4
+    (λ c. search needs)
+    (λ c. search needs)
+    (λ c κs. search needs)
+    (λ c. search needs)
+    (λ c κs. search needs)
+    (λ c. search needs)
+    (λ c κs. search needs)
+    (λ c. search needs)
+    (λ c κs. search needs)
+    (λ c. search needs)
+    (λ c. search needs)
+    (λ c. search needs)
+    (λ c. search needs)
     returns-2)
