@@ -6,7 +6,8 @@ use Prim.Native.Nat.{ℕ}
 use mathlib.Core.Path.{_≡_}
 use mathlib.Core.List.{List}
 use Rattle.lists.specs.Run.{padded}
-use Rattle.rail.specs.declared.Refusal.the-variants.{BufferLength}
+use Rattle.rail.specs.declared.ListFault.the-variants.{BufferLength}
+use Rattle.rail.specs.declared.Refusal.the-variants.{OfList}
 use Rattle.rail.specs.declared.Verdict.{Verdict}
 use Rattle.rail.specs.Verdict.{_andThen_, ifFine}
 use Rattle.sheet.specs.Format.{trainsOf, periodOf, departureOf, drivingOf, delayOf, passengersOf, pairsOf}
@@ -18,7 +19,7 @@ use Rattle.reader.specs.Reading.{readingOf}
 module _ (s : List ℕ) (before : Lists) where
   -- three lists of exactly 64 numbers and one of exactly 2,080; then the sheet
   unfoldable pub readVerdict : Verdict
-  readVerdict = lengthsVerdict BufferLength 64 2080 before andThen sheetVerdict s
+  readVerdict = lengthsVerdict (OfList BufferLength) 64 2080 before andThen sheetVerdict s
 
   -- accepted: fields first, the rest 0; m and T are returned. Refused: nothing changed
   pub record Read (after : Lists) (a : Reading) : Type 0 where

@@ -11,6 +11,7 @@ ghost use Rattle.reader.specs.Reading.{readingOf};
 ghost use Rattle.reader.specs.Decoded.{ColumnRoom, Head, ColumnsRead, Body, Decoded};
 use crate::Reading;
 use bits::field;
+use rail::HeadFault;
 use rail::Refusal;
 use rail::Verdict;
 use sheet::checks::check_numbers;
@@ -30,7 +31,7 @@ fn read_head(sheet: &[u8]) -> Reading
         (trainsOf (now (sheet .entry))) (periodOf (now (sheet .entry))) ⌝ }
 {
     if sheet.len() < 3 {
-        return Reading::Refused(Refusal::NoHead);
+        return Reading::Refused(Refusal::OfHead(HeadFault::NoHead));
     }
     let m = field(sheet, TRAINS_AT, TRAINS_WIDTH);
     let period = field(sheet, PERIOD_AT, PERIOD_WIDTH);
@@ -40,10 +41,10 @@ fn read_head(sheet: &[u8]) -> Reading
     }
     let n = bytes_of(m as usize);
     if sheet.len() < n {
-        return Reading::Refused(Refusal::TooShort);
+        return Reading::Refused(Refusal::OfHead(HeadFault::TooShort));
     }
     if n < sheet.len() {
-        return Reading::Refused(Refusal::TooLong);
+        return Reading::Refused(Refusal::OfHead(HeadFault::TooLong));
     }
     Reading::Accepted(m, period)
 }

@@ -9,6 +9,7 @@ ghost use Rattle.reader.specs.Reading.{readNumber, readPlace, readTrains
 ghost use Rattle.reader.specs.Read.{Read};
 use crate::decoding::decode;
 use lists::copy_u32;
+use rail::ListFault;
 use rail::Refusal;
 use rail::Verdict;
 use sheet::checks::check_lengths;
@@ -110,7 +111,7 @@ pub fn read(
         r ⌝ }
 {
     let lengths = check_lengths(
-        Refusal::BufferLength,
+        Refusal::OfList(ListFault::BufferLength),
         64,
         2080,
         departures,

@@ -1,9 +1,9 @@
 -- `check_filling` meets its contract: the filling is at most seven bits of the last byte.
 -- Assumes nothing.
 use borrow.Author.Needs.{needs}
-use mathlib.Core.Path.{refl, ap, _∙_}
+use mathlib.Core.Path.{ap, _∙_}
 use native.Mathlib.Omega.{arith}
-use Rattle.rail.proofs.Checks.{hit, miss}
+use Rattle.rail.proofs.Checks.{hit, miss, no-more}
 use Rattle.sheet.specs.Format.{bitsOf}
 use Rattle.sheet.specs.Checks.{fillingVerdict}
 use Rattle.sheet.proofs.Lengths.{bits-le, bytes-bits}
@@ -44,7 +44,7 @@ unfolding fillingVerdict
 returns-2 c =
     let called = c .before .before in
     rw (← called .bits-of .ensures ∙ ap bitsOf (called .before .before .pre .trains))
-    (miss _ _ _ _ _ (omega arith) refl)
+    (miss _ _ _ _ _ (omega arith) no-more)
 
 pub check-filling-spec : {M : Type 1} → statement M
 check-filling-spec =

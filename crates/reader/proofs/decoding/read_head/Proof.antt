@@ -4,7 +4,7 @@ use borrow.Author.Needs.{needs}
 use mathlib.Core.Path.{_≡_, refl, sym, ap, ap₂, _∙_}
 use native.Mathlib.Omega.{arith}
 use Rattle.rail.specs.declared.Verdict.the-variants.{Fine}
-use Rattle.rail.proofs.Checks.{hit, miss, then-stop, then-pass}
+use Rattle.rail.proofs.Checks.{hit, miss, no-more, fine-of-passed, then-stop, then-pass}
 use Rattle.sheet.specs.Format.{trainsOf, periodOf, bytesOf}
 use Rattle.sheet.specs.Checks.{rangesVerdict, headVerdict}
 use Rattle.sheet.proofs.Facts.{ranges-of-fine}
@@ -37,14 +37,14 @@ demanded c = c .bytes-of .ensures ∙ ap bytesOf (c .before .before .before .bef
 -- the sheet is under 3 bytes
 returns : tie.Need-returns
 unfolding headVerdict
-returns c = reading-refused _ _ _ (hit _ _ _ _ (omega arith))
+returns c = reading-refused _ _ _ (then-stop _ _ refl (hit _ _ _ _ (omega arith)))
 
 -- m or T is refused
 returns-2 : tie.Need-returns-2
 unfolding headVerdict
 returns-2 c =
     reading-refused _ _ _
-    (miss _ _ _ _ _ (omega arith)
+    (then-pass _ _ _ (fine-of-passed _ (omega arith, tt))
     (then-stop _ _ refl (sym (c .before .ranges .given .1) ∙ ranges (c .before .before .before))))
 
 bytes-of-requires : tie.Need-bytes-of-requires
@@ -57,7 +57,7 @@ unfolding headVerdict
 returns-3 c =
     let e = demanded (c .before) in
     reading-refused _ _ _
-    (miss _ _ _ _ _ (omega arith)
+    (then-pass _ _ _ (fine-of-passed _ (omega arith, tt))
     (then-pass _ _ _ (passed (c .before .before))
     (hit _ _ _ _ (omega arith))))
 
@@ -67,7 +67,7 @@ unfolding headVerdict
 returns-4 c =
     let e = demanded (c .before .before) in
     reading-refused _ _ _
-    (miss _ _ _ _ _ (omega arith)
+    (then-pass _ _ _ (fine-of-passed _ (omega arith, tt))
     (then-pass _ _ _ (passed (c .before .before .before))
     (miss _ _ _ _ _ (omega arith)
     (hit _ _ _ _ (omega arith)))))
@@ -79,11 +79,11 @@ returns-5 c =
     let e = demanded (c .before .before) in
     let read = c .before .before .before .before .before .before in
     reading-accepted _
-    (miss _ _ _ _ _ (omega arith)
+    (then-pass _ _ _ (fine-of-passed _ (omega arith, tt))
     (then-pass _ _ _ (passed (c .before .before .before))
     (miss _ _ _ _ _ (omega arith)
     (miss _ _ _ _ _ (omega arith)
-    refl))))
+    no-more))))
     (read .before .field .ensures)
     (read .field2 .ensures)
 

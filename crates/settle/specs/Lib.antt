@@ -1,4 +1,0 @@
-pub mod LineOf
-pub mod Buffers
-pub mod Settled
-pub mod Steps
