@@ -3,7 +3,7 @@
 // asked for would have to be shown here, of any lists. What each promises is what its caller has.
 ghost use Rattle.sheet.specs.Numbers.{lists};
 ghost use Rattle.writer.specs.Write.{given};
-ghost use Rattle.settle.specs.Buffers.{buffers};
+ghost use Rattle.planner.specs.Buffers.{buffers};
 ghost use Rattle.oblachura.specs.Calls.{ReadCall, WriteCall, PlanCall, lent, ReportCall};
 use oblachura::oblachura_plan;
 use oblachura::oblachura_read;

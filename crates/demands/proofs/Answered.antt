@@ -12,7 +12,8 @@ use lib.ListN.{length, getD, length-replicate}
 use Rattle.lists.proofs.Choice.{if-yes}
 use Rattle.lists.proofs.Run.{padded-length}
 use Rattle.rail.specs.declared.Refusal.{Refusal}
-use Rattle.rail.specs.declared.Refusal.the-variants.{BufferLength}
+use Rattle.rail.specs.declared.ListFault.the-variants.{BufferLength}
+use Rattle.rail.specs.declared.Refusal.the-variants.{OfList}
 use Rattle.rail.specs.declared.Verdict.{Verdict}
 use Rattle.rail.specs.declared.Verdict.the-variants.{Fine, Refused}
 use Rattle.rail.specs.Refusal.{blanksOf}
@@ -33,15 +34,17 @@ use Rattle.sheet.proofs.Refusals.{sheet-refusal-blanks}
 use Rattle.sheet.proofs.Amend.{replaced-numbers, replaced-accepted}
 use Rattle.cells.specs.Place.{InUse}
 use Rattle.cells.proofs.Shown.{shown-length}
-use Rattle.amend.specs.Checks.{Reportable}
-use Rattle.amend.proofs.Reportable.{own-no-train, own-too-late, own-over}
-use Rattle.settle.specs.LineOf.{lineOf}
-use Rattle.settle.specs.Buffers.{Buffers, RightLengths}
-use Rattle.settle.specs.Settled.{Settled}
-use Rattle.settle.proofs.Lines.{line-in-range}
-use Rattle.settle.proofs.Settles.{buffers-one}
-use Rattle.planner.specs.declared.Answer.{Answer}
-use Rattle.planner.specs.Outcome.{answerNumber, answerTotal, buffersVerdict, Outcome}
+use Rattle.planner.specs.ReportChecks.{Reportable}
+use Rattle.planner.proofs.Reportable.{own-no-train, own-too-late, own-over}
+use Rattle.prepare.specs.LineOf.{lineOf}
+use Rattle.planner.specs.Buffers.{Buffers, RightLengths}
+use Rattle.planner.specs.Settled.{Settled}
+use Rattle.prepare.proofs.Lines.{line-in-range}
+use Rattle.planner.proofs.Settles.{buffers-one}
+use Rattle.rail.specs.declared.Answer.{Answer}
+use Rattle.rail.specs.Answer.{answerNumber, answerCarries}
+use Rattle.planner.specs.Buffers.{buffersVerdict}
+use Rattle.planner.specs.Outcome.{Outcome}
 use Rattle.planner.specs.Plan.{planVerdict, Planned, Plan}
 use Rattle.planner.specs.Report.{reportVerdict, Reported, Report}
 use Rattle.planner.proofs.Refusals.{right-of-fine, checks-right, checks-wrong, checks-fine, afterLengthsVerdict}
@@ -57,7 +60,7 @@ all-right right = record { beside = tt; buffers = right }
 record Left (m last : ℕ) (before after : Buffers) (a : Answer) : Type 0 where
   lengths : RightLengths after
   others : (p : ℕ) → ¬ (InUse m last p) → getD (after .cells) p 0 ≡ getD (before .cells) p 0
-  most : answerTotal a ≤ limit
+  most : answerCarries a ≤ limit
 
 -- ---- from the outcome
 
@@ -79,13 +82,13 @@ module _ (w : Verdict) (Stored : Type 0) (before after : Buffers) (a : Answer)
       record {
         number = h .number ∙ ap numberIn e;
         place = h .place ∙ ap placeIn e;
-        total = ap answerTotal (h .refused r e .answer);
+        total = ap answerCarries (h .refused r e .answer);
       }
 
   -- with buffers of other lengths it writes nothing
-  nothing-written : checks ≡ Refused BufferLength → after ≡ before
+  nothing-written : checks ≡ Refused (OfList BufferLength) → after ≡ before
   nothing-written e =
-      let left = h .refused BufferLength e in
+      let left = h .refused (OfList BufferLength) e in
       buffers-one after before (left .cells) (left .decisions) (left .delays)
 
   module _ (Passes : Type 0) (m last : ℕ) (passes : w ≡ Fine → Passes) (fine-of : Passes → w ≡ Fine)
@@ -150,7 +153,7 @@ module _ (w : Verdict) (Stored : Type 0) (before after : Buffers) (a : Answer)
           (h .number ∙ ap numberIn ten, nothing-written ten)
     ]
 
-    total-most : answerTotal a ≤ limit
+    total-most : answerCarries a ≤ limit
     total-most = elim (fine-or-refused checks) [
       | inl fine ↦ left-when fine .most
       | inr (r, e) ↦ rw (refused-by r e .total) zero-le
@@ -184,7 +187,7 @@ planned-left L before after a range right plan =
         delays = ap length (plan .delays) ∙ padded-length 64 _ _;
       };
       others = plan .cells .others;
-      most = le-trans (le-of-eq (ap answerTotal (plan .answer))) (total-le L range (plan .policy));
+      most = le-trans (le-of-eq (ap answerCarries (plan .answer))) (total-le L range (plan .policy));
     }
 
 pub plan-answered : (s : List ℕ) (before after : Buffers) (a : Answer) → Plan s before after a
@@ -199,7 +202,7 @@ plan-answered s before after a h =
 -- ---- of a report
 
 settled-left : (L : Line) (i : ℕ) (before after : Buffers) (a : Answer) → LineInRange L → 1 ≤ i → i ≤ L .trains
-    → RightLengths before → Settled (bookOf L) i before after (answerTotal a)
+    → RightLengths before → Settled (bookOf L) i before after (answerCarries a)
     → Left (L .trains) i before after a
 settled-left L i before after a range least most right settled =
     record {

@@ -19,14 +19,14 @@ use Rattle.line.proofs.Worked.{cell-means}
 use Rattle.line.proofs.Plan.{plan-alike}
 use Rattle.sheet.specs.Numbers.{numbersOf}
 use Rattle.sheet.specs.Checks.{sheetVerdict}
-use Rattle.meaning.proofs.RoundTrip.{read-then-write, write-then-read, equal-fields}
+use Rattle.demands.proofs.RoundTrip.{read-then-write, write-then-read, equal-fields}
 use Rattle.cells.proofs.Places.{table-in}
 use Rattle.cells.specs.Shown.{byteOf, shown}
 use Rattle.cells.proofs.Shown.{shown-same}
-use Rattle.settle.specs.LineOf.{lineOf}
-use Rattle.settle.specs.Buffers.{Buffers}
-use Rattle.planner.specs.declared.Answer.{Answer}
-use Rattle.planner.specs.Outcome.{answerTotal}
+use Rattle.prepare.specs.LineOf.{lineOf}
+use Rattle.planner.specs.Buffers.{Buffers}
+use Rattle.rail.specs.declared.Answer.{Answer}
+use Rattle.rail.specs.Answer.{answerCarries}
 use Rattle.planner.specs.Plan.{planVerdict, Planned}
 use Rattle.planner.proofs.Refusals.{accepted-of-plan}
 use Rattle.planner.proofs.Outcome.{plan-outcome-one, report-outcome-one}
@@ -75,10 +75,10 @@ module _ (L : Line) (before after : Buffers) (a : Answer) (few : L .trains ≤ 6
   days : DaysAlike 1 (L .trains) (dayOf (L .running) (plan .policy)) (dayOf (L .running) shows)
   days = same-days L L (plan .policy) shows (lines-alike-refl 1 L) agrees
 
-  least-plan : LeastPlan L after (answerTotal a)
+  least-plan : LeastPlan L after (answerCarries a)
   least-plan =
       record {
-        told = ap answerTotal (plan .answer) ∙ same-total L L (plan .policy) shows (lines-alike-refl 1 L) agrees;
+        told = ap answerCarries (plan .answer) ∙ same-total L L (plan .policy) shows (lines-alike-refl 1 L) agrees;
         least = shows-plan .least;
         earliest = shows-plan .tie;
         decisions = plan .decisions ∙ shown-same (L .trains) (plan .policy) shows agrees;

@@ -31,11 +31,11 @@ use Rattle.cells.specs.Place.{place, tableOf, InUse, RowsWorked}
 use Rattle.cells.specs.Shown.{shown}
 use Rattle.cells.proofs.Places.{place-lt, place-one, in-use-or-not, table-in, table-past}
 use Rattle.amend.proofs.Amended.{delay-room}
-use Rattle.settle.specs.LineOf.{lineOf}
-use Rattle.settle.specs.Buffers.{Buffers, buffers}
-use Rattle.settle.specs.Settled.{Settled}
-use Rattle.planner.specs.declared.Answer.the-variants.{Accepted, Refused as AnswerRefused}
-use Rattle.planner.specs.Outcome.{RefusedFor}
+use Rattle.prepare.specs.LineOf.{lineOf}
+use Rattle.planner.specs.Buffers.{Buffers, buffers}
+use Rattle.planner.specs.Settled.{Settled}
+use Rattle.rail.specs.declared.Answer.the-variants.{Accepted, Refused as AnswerRefused}
+use Rattle.planner.specs.Buffers.{RefusedFor}
 use Rattle.planner.specs.Plan.{planVerdict}
 use Rattle.planner.specs.Report.{reportVerdict}
 use Rattle.planner.proofs.Refusals.{accepted-of-plan, accepted-of-report}

@@ -17,7 +17,7 @@ use Rattle.line.specs.Line.{Line, lineFrom}
 use Rattle.line.specs.Policy.{Decision, Keep, Policy, arrival, total}
 use Rattle.line.specs.Cells.{Table, bookOf, Worked}
 use Rattle.line.specs.Alike.{LinesAlike}
-use Rattle.line.specs.Answers.{Rows, policyFrom, tableFrom, PlanAnswer, Answer as CaseAnswer}
+use Rattle.line.specs.Answers.{Rows, policyFrom, tableFrom, PlanAnswer, CaseAnswer}
 use Rattle.line.proofs.Days.{same-days, same-total}
 use Rattle.line.proofs.Alike.{books-of-lines}
 use Rattle.line.proofs.Tables.{worked-for-alike}
@@ -30,10 +30,10 @@ use Rattle.cells.specs.Place.{place, tableOf}
 use Rattle.cells.specs.Shown.{byteOf, shown}
 use Rattle.cells.proofs.Places.{table-in}
 use Rattle.cells.proofs.Shown.{shown-same}
-use Rattle.settle.specs.LineOf.{lineOf}
-use Rattle.settle.specs.Buffers.{Buffers, RightLengths}
-use Rattle.planner.specs.declared.Answer.{Answer}
-use Rattle.planner.specs.declared.Answer.the-variants.{Accepted}
+use Rattle.prepare.specs.LineOf.{lineOf}
+use Rattle.planner.specs.Buffers.{Buffers, RightLengths}
+use Rattle.rail.specs.declared.Answer.{Answer}
+use Rattle.rail.specs.declared.Answer.the-variants.{Accepted}
 use Rattle.planner.specs.Plan.{planVerdict, Planned, Plan}
 use Rattle.planner.proofs.Refusals.{checks-right}
 use Rattle.demands.specs.Sheets.{decisionBytes, Leaves}

@@ -10,7 +10,7 @@ use Rattle.lists.specs.Run.{runOf, listed}
 use Rattle.bits.specs.Field.{bitAt, fieldOf}
 use Rattle.line.specs.Line.{Line, lineFrom}
 use Rattle.line.specs.Alike.{LinesAlike}
-use Rattle.line.specs.Answers.{PlanAnswer, Answer as CaseAnswer}
+use Rattle.line.specs.Answers.{PlanAnswer, CaseAnswer}
 use Rattle.line.specs.Cases.{lineB, delaysB7, delaysB8}
 use Rattle.line.proofs.Days.{lines-alike-trans}
 use Rattle.sheet.specs.Format.{trainsOf, entry}
@@ -20,11 +20,11 @@ use Rattle.sheet.specs.Pairs.{fieldsUpTo, fieldOfPair, passengersOfPair}
 use Rattle.sheet.proofs.Facts.{accepted-of-fine, fine-of-accepted}
 use Rattle.sheet.proofs.Meaning.{same-both, same-sym}
 use Rattle.sheet.proofs.Amend.{replaced-numbers, with-delay-same}
-use Rattle.settle.specs.LineOf.{lineOf}
-use Rattle.settle.specs.Buffers.{Buffers, RightLengths}
-use Rattle.settle.proofs.Lines.{lines-of-same}
-use Rattle.planner.specs.declared.Answer.{Answer}
-use Rattle.planner.specs.Outcome.{answerNumber}
+use Rattle.prepare.specs.LineOf.{lineOf}
+use Rattle.planner.specs.Buffers.{Buffers, RightLengths}
+use Rattle.prepare.proofs.Lines.{lines-of-same}
+use Rattle.rail.specs.declared.Answer.{Answer}
+use Rattle.rail.specs.Answer.{answerNumber}
 use Rattle.demands.specs.Sheets.{sheetB, Leaves, ReportAfterB4, AnswersB7, AnswersB8}
 use Rattle.demands.specs.Calling.{operations}
 use Rattle.demands.specs.Runs.{InRun, planned, reported, ReportInRun}

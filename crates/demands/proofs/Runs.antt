@@ -31,14 +31,15 @@ use Rattle.sheet.proofs.Amend.{replaced-numbers, replaced-accepted}
 use Rattle.cells.specs.Place.{tableOf, InUse}
 use Rattle.cells.specs.Given.{CellsInRange}
 use Rattle.cells.proofs.Places.{table-in}
-use Rattle.amend.specs.Checks.{ownVerdict, Reportable}
-use Rattle.amend.proofs.Reportable.{fine-of-later}
-use Rattle.settle.specs.LineOf.{lineOf}
-use Rattle.settle.specs.Buffers.{Buffers, RightLengths}
-use Rattle.settle.specs.Settled.{Settled}
-use Rattle.settle.proofs.Lines.{line-in-range, lines-after}
-use Rattle.planner.specs.declared.Answer.{Answer}
-use Rattle.planner.specs.Outcome.{answerNumber, answerTotal, Outcome}
+use Rattle.planner.specs.ReportChecks.{ownVerdict, Reportable}
+use Rattle.planner.proofs.Reportable.{fine-of-later}
+use Rattle.prepare.specs.LineOf.{lineOf}
+use Rattle.planner.specs.Buffers.{Buffers, RightLengths}
+use Rattle.planner.specs.Settled.{Settled}
+use Rattle.prepare.proofs.Lines.{line-in-range, lines-after}
+use Rattle.rail.specs.declared.Answer.{Answer}
+use Rattle.rail.specs.Answer.{answerNumber, answerCarries}
+use Rattle.planner.specs.Outcome.{Outcome}
 use Rattle.planner.specs.Plan.{planVerdict, Planned, Plan}
 use Rattle.planner.specs.Report.{reportVerdict, Reported, Report}
 use Rattle.planner.proofs.Refusals.{buffers-refusal, checks-right, accepted-of-plan, afterLengthsVerdict, fine-of-facts}
@@ -106,7 +107,7 @@ planned-agrees L before after b b′ a a′ zero P Q =
     let same = planned-same L before after b b′ a a′ P Q in
     record {
       accepted = zero;
-      total = ap answerTotal (same .0);
+      total = ap answerCarries (same .0);
       decisions = same .1;
       delays = same .2;
       cells = λ k l u v w.
@@ -203,7 +204,7 @@ module _ (s : List ℕ) (i v : ℕ) (before : Buffers) (t : List ℕ) (after : B
     unfolding lineOf lineFrom
     is-planned =
         subst (Planned L before after) (sym (done .answer))
-        (settled-planned L (trainsOf t) before after (answerTotal a) refl
+        (settled-planned L (trainsOf t) before after (answerCarries a) refl
         (whole-settled (bookOf L) i before after _ (omega (arith, trains, told .2 .most)) (done .settled) (whole _)))
 
     is-plan : Plan t before after a

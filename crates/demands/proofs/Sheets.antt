@@ -20,7 +20,7 @@ use Rattle.sheet.specs.Checks.{rangesVerdict, earliestOf, trainVerdict, passeng
 use Rattle.sheet.specs.Checks.{headVerdict, fillingVerdict, bodyVerdict, sheetVerdict}
 use Rattle.sheet.specs.SheetA.{sheetA}
 use Rattle.sheet.proofs.Sample.{sheet-a-accepted}
-use Rattle.settle.specs.LineOf.{lineOf}
+use Rattle.prepare.specs.LineOf.{lineOf}
 use Rattle.demands.specs.Sheets.{sheetB, sheetB13, AnswersA, AnswersB, AnswersB13}
 use Rattle.demands.proofs.Printed.{pairRows, lines-same, leaves}
 

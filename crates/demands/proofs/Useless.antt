@@ -12,8 +12,8 @@ use Rattle.lists.proofs.Run.{padded-nth}
 use Rattle.line.specs.Cases.{b4, b6, b7}
 use Rattle.sheet.proofs.Facts.{accepted-of-fine}
 use Rattle.cells.specs.Shown.{shown}
-use Rattle.amend.specs.Checks.{FirstOver}
-use Rattle.planner.specs.Outcome.{answerTotal}
+use Rattle.planner.specs.ReportChecks.{FirstOver}
+use Rattle.rail.specs.Answer.{answerCarries}
 use Rattle.demands.specs.Sheets.{sheetB, decisionBytes}
 use Rattle.demands.specs.Useless.{RefusesAllBreaks, SameDecisionsBreak, AllKeepBreaks, DoesNothingBreaks}
 use Rattle.demands.specs.Useless.{DecisionsStayBreak, StaysBlankBreaks, RepeatsPlanBreaks, WritesEarlyBreaks}
@@ -73,7 +73,7 @@ repeats-plan-breaks after4 a4 t before after a h =
           let five : nth (after .delays) 1 ≡ 5
           = padded-nth _ 64 3 _ (new .held .delays) (omega arith) 1 (omega arith) (omega arith) in
           absurd (omega (arith, nine, five, ap (λ (l : List ℕ). nth l 1) same)),
-      λ same. absurd (omega (arith, ap answerTotal (sym (new .answer) ∙ same ∙ old .answer))),
+      λ same. absurd (omega (arith, ap answerCarries (sym (new .answer) ∙ same ∙ old .answer))),
     )
 
 pub writes-early-breaks : WritesEarlyBreaks

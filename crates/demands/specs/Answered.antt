@@ -2,7 +2,6 @@
 -- promise, called in any way (Calling), so they hold of whatever keeps the promises. That no arithmetic spills and no
 -- place outside is read is what the proofs of the functions show.
 --   SameLengths before after  every list has the length that it had
---   Blanked before after      the decisions and the delays are blank, the cells as they were
 --   Carries C r a             the answer a carries number and place of the refusal r, and 0 for the total
 --   Answered C checks Passes m last x before after a     what demand 1 says of one call of plan or report
 --   PlanAnswered, ReportAnswered     of one plan, and of one report
@@ -14,10 +13,11 @@ use Prim.Native.Nat.{ℕ, _≤_, _<_}
 use mathlib.Core.Path.{_≡_}
 use mathlib.Core.List.{List}
 use mathlib.Core.Logic.{_⊎_}
-use lib.ListN.{length, getD, replicate}
+use lib.ListN.{length, getD}
 use Rattle.bits.specs.Field.{Bytes}
 use Rattle.rail.specs.declared.Refusal.{Refusal}
-use Rattle.rail.specs.declared.Refusal.the-variants.{NoSuchTrain, NewDelay, CellOverLimit}
+use Rattle.rail.specs.declared.ReportFault.the-variants.{NoSuchTrain, NewDelay, CellOverLimit}
+use Rattle.rail.specs.declared.Refusal.the-variants.{OfReport}
 use Rattle.rail.specs.declared.Verdict.{Verdict}
 use Rattle.rail.specs.declared.Verdict.the-variants.{Refused}
 use Rattle.rail.specs.Refusal.{train, numberOf, placeOf}
@@ -25,8 +25,8 @@ use Rattle.line.specs.Ranges.{limit}
 use Rattle.sheet.specs.Format.{trainsOf}
 use Rattle.sheet.specs.Accepted.{AcceptedSheet}
 use Rattle.cells.specs.Place.{InUse}
-use Rattle.amend.specs.Checks.{Reportable, FirstOver}
-use Rattle.settle.specs.Buffers.{Buffers}
+use Rattle.planner.specs.ReportChecks.{Reportable, FirstOver}
+use Rattle.planner.specs.Buffers.{Buffers, Blanked}
 use Rattle.planner.specs.Plan.{planVerdict}
 use Rattle.planner.specs.Report.{reportVerdict}
 use Rattle.demands.specs.Calling.{Calling, Right}
@@ -35,11 +35,6 @@ pub record SameLengths (before after : Buffers) : Type 0 where
   pub cells : length (after .cells) ≡ length (before .cells)
   pub decisions : length (after .decisions) ≡ length (before .decisions)
   pub delays : length (after .delays) ≡ length (before .delays)
-
-pub record Blanked (before after : Buffers) : Type 0 where
-  pub decisions : after .decisions ≡ replicate 64 2
-  pub delays : after .delays ≡ replicate 64 0
-  pub cells : after .cells ≡ before .cells
 
 pub record Carries (C : Calling) (r : Refusal) (a : C .Result) : Type 0 where
   pub number : C .number a ≡ numberOf r
@@ -78,11 +73,11 @@ pub record ReportAnswered (C : Calling) (x : C .Beside) (s : List ℕ) (i v : �
       (AcceptedSheet s × Reportable (trainsOf s) i v (before .cells)) (trainsOf s) i x before after a
   -- Its own refusals, where buffers and sheet are right: 11; then 6, at the train; then 12, at the first row after the
   -- train with a cell in use over the limit.
-  pub no-train : Right C x before → AcceptedSheet s → (i < 1) ⊎ (trainsOf s < i) → Carries C NoSuchTrain a
+  pub no-train : Right C x before → AcceptedSheet s → (i < 1) ⊎ (trainsOf s < i) → Carries C (OfReport NoSuchTrain) a
   pub too-late : Right C x before → AcceptedSheet s → 1 ≤ i → i ≤ trainsOf s → 1440 < v
-      → Carries C (NewDelay (train i)) a
+      → Carries C (OfReport (NewDelay (train i))) a
   pub over : Right C x before → AcceptedSheet s → 1 ≤ i → i ≤ trainsOf s → v ≤ 1440 → (k : ℕ)
-      → FirstOver (trainsOf s) i (before .cells) k → Carries C (CellOverLimit (train k)) a
+      → FirstOver (trainsOf s) i (before .cells) k → Carries C (OfReport (CellOverLimit (train k))) a
   -- A refused report does not change the sheet, and no report changes its length.
   pub sheet : ¬ (C .number a ≡ 0) → t ≡ s
   pub sheet-length : length t ≡ length s

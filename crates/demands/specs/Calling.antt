@@ -6,9 +6,9 @@
 -- Assumes nothing.
 use Prim.Native.Nat.{ℕ}
 use mathlib.Core.List.{List}
-use Rattle.settle.specs.Buffers.{Buffers, RightLengths}
-use Rattle.planner.specs.declared.Answer.{Answer}
-use Rattle.planner.specs.Outcome.{answerNumber, answerPlace, answerTotal}
+use Rattle.planner.specs.Buffers.{Buffers, RightLengths}
+use Rattle.rail.specs.declared.Answer.{Answer}
+use Rattle.rail.specs.Answer.{answerNumber, answerPlace, answerCarries}
 use Rattle.planner.specs.Plan.{Plan}
 use Rattle.planner.specs.Report.{Report}
 
@@ -38,7 +38,7 @@ operations =
       Result = Answer;
       number = answerNumber;
       place = answerPlace;
-      total = answerTotal;
+      total = answerCarries;
       plan = λ x. Plan;
       report = λ x. Report;
     }

@@ -1,7 +1,5 @@
--- Demand 2: the least total, the earliest connection kept, each accepted sheet with one meaning. The statements are
--- about what plan promises, called in any way (Calling), and of the last sentence about read and write
--- (meaning/specs/OneMeaning).
---   policyIn bytes            the policy that decision bytes show
+-- Demand 2, first half: the least total, the earliest connection kept. The statements are about what plan promises,
+-- called in any way (Calling).
 --   LeastPlan L after n       what demand 2 says of one accepted plan of the line L that answers the total n
 --   Demand2 C                 the demand
 -- Assumes nothing.
@@ -9,23 +7,17 @@ use Prim.Native.Nat.{ℕ, _≤_}
 use mathlib.Core.Path.{_≡_}
 use mathlib.Core.List.{List}
 use lib.ListN.{getD}
-use Rattle.lists.specs.Choice.{ifSame}
-use Rattle.lists.specs.Run.{nth, padded}
+use Rattle.lists.specs.Run.{padded}
 use Rattle.line.specs.Line.{Line}
-use Rattle.line.specs.Policy.{Keep, Go, Policy, arrival, total}
+use Rattle.line.specs.Policy.{Keep, Policy, arrival, total}
 use Rattle.line.specs.Plan.{FirstDifference}
 use Rattle.line.specs.Cells.{IsCell}
 use Rattle.sheet.specs.Numbers.{numbersOf}
-use Rattle.meaning.specs.OneMeaning.{ReadThenWrite, WriteThenRead, EqualFields}
 use Rattle.cells.specs.Place.{place}
-use Rattle.cells.specs.Shown.{shown}
-use Rattle.settle.specs.LineOf.{lineOf}
-use Rattle.settle.specs.Buffers.{Buffers}
+use Rattle.cells.specs.Shown.{shown, policyIn}
+use Rattle.prepare.specs.LineOf.{lineOf}
+use Rattle.planner.specs.Buffers.{Buffers}
 use Rattle.demands.specs.Calling.{Calling}
-
--- byte i, from 1: 1 is keep, anything else go
-unfoldable pub policyIn : List ℕ → Policy
-policyIn bytes i = ifSame (nth bytes i) 1 Keep Go
 
 pub record LeastPlan (L : Line) (after : Buffers) (n : ℕ) : Type 0 where
   -- The total is that of the decisions shown,
@@ -44,9 +36,3 @@ pub record LeastPlan (L : Line) (after : Buffers) (n : ℕ) : Type 0 where
 pub record Demand2 (C : Calling) : Type 0 where
   pub accepted-plan-is-least : (x : C .Beside) (s : List ℕ) (before after : Buffers) (a : C .Result)
       → C .plan x s before after a → C .number a ≡ 0 → LeastPlan (lineOf (numbersOf s)) after (C .total a)
-
--- Sheets are read and written so that each accepted sheet has one meaning and comes back bit for bit.
-pub record OneMeaning : Type 0 where
-  pub read-then-write : ReadThenWrite
-  pub write-then-read : WriteThenRead
-  pub equal-fields : EqualFields

@@ -4,7 +4,8 @@
 -- Assumes nothing.
 use Rattle.demands.specs.Calling.{operations}
 use Rattle.demands.specs.Answered.{Demand1}
-use Rattle.demands.specs.Least.{Demand2, OneMeaning}
+use Rattle.demands.specs.Least.{Demand2}
+use Rattle.demands.specs.OneMeaning.{OneMeaning}
 use Rattle.demands.specs.Runs.{Demand3}
 use Rattle.demands.specs.Sheets.{AnswersA, AnswersB, AnswersB13, AnswersB7, AnswersB8}
 use Rattle.demands.specs.Useless.{RefusesAllBreaks, SameDecisionsBreak, AllKeepBreaks, DoesNothingBreaks}

@@ -15,13 +15,15 @@ use mathlib.Core.List.{List}
 use mathlib.Core.Logic.{_⊎_}
 use lib.ListN.{getD}
 use Rattle.rail.specs.declared.Refusal.{Refusal}
-use Rattle.rail.specs.declared.Refusal.the-variants.{BufferLength, NoSuchTrain, NewDelay}
+use Rattle.rail.specs.declared.ListFault.the-variants.{BufferLength}
+use Rattle.rail.specs.declared.ReportFault.the-variants.{NoSuchTrain, NewDelay}
+use Rattle.rail.specs.declared.Refusal.the-variants.{OfList, OfReport}
 use Rattle.rail.specs.declared.Verdict.the-variants.{Refused}
 use Rattle.rail.specs.Refusal.{train}
 use Rattle.sheet.specs.Format.{trainsOf}
 use Rattle.sheet.specs.Accepted.{AcceptedSheet, DelayReplaced}
 use Rattle.cells.specs.Place.{place, InUse}
-use Rattle.settle.specs.Buffers.{Buffers}
+use Rattle.planner.specs.Buffers.{Buffers}
 use Rattle.planner.specs.Report.{reportVerdict}
 use Rattle.demands.specs.Calling.{Calling, Right}
 
@@ -54,7 +56,7 @@ pub record Agrees (C : Calling) (m : ℕ) (after : Buffers) (a : C .Result) (aft
       → getD (after .cells) (place m k l) 0 ≡ getD (after′ .cells) (place m k l) 0
 
 abbrev pub OfItself : ℕ → Refusal → Type 0
-OfItself i r = (r ≡ BufferLength) ⊎ (r ≡ NoSuchTrain) ⊎ (r ≡ NewDelay (train i))
+OfItself i r = (r ≡ OfList BufferLength) ⊎ (r ≡ OfReport NoSuchTrain) ⊎ (r ≡ OfReport (NewDelay (train i)))
 
 pub record ReportInRun (C : Calling) (x : C .Beside) (s : List ℕ) (i v : ℕ) (before : Buffers) (t : List ℕ)
     (after : Buffers) (a : C .Result) : Type 0 where

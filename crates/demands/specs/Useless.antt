@@ -18,15 +18,16 @@ use mathlib.Core.List.{List}
 use lib.ListN.{replicate}
 use Rattle.lists.specs.Run.{nth, padded}
 use Rattle.rail.specs.declared.Refusal.{Refusal}
-use Rattle.rail.specs.declared.Refusal.the-variants.{CellOverLimit}
+use Rattle.rail.specs.declared.ReportFault.the-variants.{CellOverLimit}
+use Rattle.rail.specs.declared.Refusal.the-variants.{OfReport}
 use Rattle.rail.specs.Refusal.{train}
 use Rattle.line.specs.Policy.{Keep}
 use Rattle.line.specs.Cases.{b4}
 use Rattle.cells.specs.Shown.{shown}
-use Rattle.planner.specs.declared.Answer.{Answer}
-use Rattle.planner.specs.declared.Answer.the-variants.{Refused as AnswerRefused}
-use Rattle.settle.specs.Buffers.{Buffers, RightLengths}
-use Rattle.amend.specs.Checks.{FirstOver}
+use Rattle.rail.specs.declared.Answer.{Answer}
+use Rattle.rail.specs.declared.Answer.the-variants.{Refused as AnswerRefused}
+use Rattle.planner.specs.Buffers.{Buffers, RightLengths}
+use Rattle.planner.specs.ReportChecks.{FirstOver}
 use Rattle.planner.specs.Plan.{Plan}
 use Rattle.planner.specs.Report.{Report}
 use Rattle.demands.specs.Calling.{operations}
@@ -90,4 +91,4 @@ WritesEarlyBreaks =
     → RightLengths before
     → FirstOver 3 1 (before .cells) k
     → Report sheetB 1 5 before t after a
-    → Carries operations (CellOverLimit (train k)) a × (t ≡ sheetB)
+    → Carries operations (OfReport (CellOverLimit (train k))) a × (t ≡ sheetB)

@@ -14,7 +14,7 @@ use Rattle.line.specs.Line.{Line, lineFrom}
 use Rattle.line.specs.Policy.{arrival, excess, departure, missed, atFirstMissed, counts, pairsTotal, total}
 use Rattle.line.specs.Cells.{leaving, aboard, runFrom, excessOn, arrivalOn, keepCost, goCost, cellBy, choice}
 use Rattle.line.specs.Cells.{begins, policyBy, decide, bookOf}
-use Rattle.line.specs.Answers.{Rows, Answer, policyFrom, tableFrom, PolicyAnswer, PlanAnswer, WorkedAnswer}
+use Rattle.line.specs.Answers.{Rows, CaseAnswer, policyFrom, tableFrom, PolicyAnswer, PlanAnswer, WorkedAnswer}
 use Rattle.line.specs.Cases.{reported, Case, policy, plan, report, rework, Holds, lineA, a, table, CasesHold}
 use Rattle.line.proofs.Worked.{cell-means}
 use Rattle.line.proofs.Listing.{better, firstLeast, first-least-length, first-least-is-plan}
@@ -22,11 +22,11 @@ use Rattle.line.proofs.Rows.{rowsOf, reworked, reworked-in-use, reworke
 
 -- ---- what is computed for the answer x
 
-module _ (L : Line) (x : Answer) where
+module _ (L : Line) (x : CaseAnswer) where
   abbrev arrivals : List ℕ
   arrivals = listed (arrival (L .running) (policyFrom (x .decisions))) 1 (L .trains)
 
-  abbrev followed : Answer
+  abbrev followed : CaseAnswer
   followed =
       record {
         decisions = listed (policyFrom (x .decisions)) 2 (L .trains - 1);
@@ -36,7 +36,7 @@ module _ (L : Line) (x : Answer) where
       }
 
   -- all m rows are worked, so that nothing is read of rows before
-  abbrev planned : Answer
+  abbrev planned : CaseAnswer
   planned =
       record {
         decisions = firstLeast L (L .trains - 1) [];
@@ -45,7 +45,7 @@ module _ (L : Line) (x : Answer) where
         rows = reworked (bookOf L) (L .trains) [] (x .rows);
       }
 
-  abbrev worked : ℕ → Rows → Answer
+  abbrev worked : ℕ → Rows → CaseAnswer
   worked t before =
       record {
         decisions = listed (decide (bookOf L) (tableFrom (x .rows))) 2 (L .trains - 1);
@@ -54,14 +54,14 @@ module _ (L : Line) (x : Answer) where
         rows = reworked (bookOf L) t before (x .rows);
       }
 
-abbrev computed : Case → List Answer
+abbrev computed : Case → List CaseAnswer
 computed (policy L x) = followed L x ∷ []
 computed (plan L x) = planned L x ∷ worked L x (L .trains) [] ∷ []
 computed (report t y line delay before x) =
     planned (line (reported t y delay)) x ∷ worked (line (reported t y delay)) x t (before .rows) ∷ []
 computed (rework t before L x) = worked L x t before ∷ []
 
-abbrev printed : Case → List Answer
+abbrev printed : Case → List CaseAnswer
 printed (policy L x) = x ∷ []
 printed (plan L x) = x ∷ x ∷ []
 printed (report t y line delay before x) = x ∷ x ∷ []
@@ -69,7 +69,7 @@ printed (rework t before L x) = x ∷ []
 
 -- ---- what is computed as printed holds
 
-module _ (L : Line) (x : Answer) where
+module _ (L : Line) (x : CaseAnswer) where
   followed-holds : followed L x ≡ x → PolicyAnswer L x
   followed-holds e =
       record {

@@ -1,6 +1,6 @@
 -- What is printed for a case of document 01, "Sums to check by hand", and what it says of a line, in the words of
 -- document 01's definitions alone.
---   Rows, Answer              rows of cells in use; decisions, arrival delays, a total and rows
+--   Rows, CaseAnswer              rows of cells in use; decisions, arrival delays, a total and rows
 --   policyFrom, tableFrom     decisions as a policy, rows as a table
 --   PolicyAnswer L x          delays and total of x are what comes of following its decisions
 --   PlanAnswer L x            besides, its decisions are the plan and its rows are what document 01 says that cells are
@@ -21,7 +21,7 @@ abbrev pub Rows : Type 0
 Rows = List (List ℕ)
 
 -- decisions from train 2 on, arrival delays from train 1 on, the total, and the rows of cells in use
-pub record Answer : Type 0 where
+pub record CaseAnswer : Type 0 where
   pub decisions : List Decision
   pub delays : List ℕ
   pub total : ℕ
@@ -36,19 +36,19 @@ abbrev pub tableFrom : Rows → Table
 tableFrom rows k l = nth (getD rows (k - 1) []) (l - k + 1)
 
 -- a decision for each train from 2 to m, and what comes of following them
-pub record PolicyAnswer (L : Line) (x : Answer) : Type 0 where
+pub record PolicyAnswer (L : Line) (x : CaseAnswer) : Type 0 where
   pub decided : length (x .decisions) ≡ L .trains - 1
   pub delays : listed (arrival (L .running) (policyFrom (x .decisions))) 1 (L .trains) ≡ x .delays
   pub costs : total L (policyFrom (x .decisions)) ≡ x .total
 
-pub record PlanAnswer (L : Line) (x : Answer) : Type 0 where
+pub record PlanAnswer (L : Line) (x : CaseAnswer) : Type 0 where
   pub policy : PolicyAnswer L x
   pub plan : IsPlan L (policyFrom (x .decisions))
   pub cells : (k l : ℕ) → 1 ≤ k → k ≤ l → l ≤ L .trains → IsCell L k l (tableFrom (x .rows) k l)
 
 -- Document 01, "Four operations": rows 1 to t are worked anew from the later rows as they stand; decisions follow from
 -- train 2 by comparing the two choices in the cells, and delays by following them; the total is cell (1, 1).
-pub record WorkedAnswer (L : Line) (t : ℕ) (before : Rows) (x : Answer) : Type 0 where
+pub record WorkedAnswer (L : Line) (t : ℕ) (before : Rows) (x : CaseAnswer) : Type 0 where
   -- row k has the m + 1 - k cells (k, k) to (k, m)
   pub in-use : map length (x .rows) ≡ listed (λ k. L .trains + 1 - k) 1 (L .trains)
   pub worked : Worked (bookOf L) t (tableFrom before) (tableFrom (x .rows))

@@ -12,7 +12,7 @@ use Rattle.lists.specs.Choice.{ifSame}
 use Rattle.lists.specs.Run.{nth}
 use Rattle.line.specs.Line.{Line, lineFrom}
 use Rattle.line.specs.Policy.{Decision, Keep, Go}
-use Rattle.line.specs.Answers.{Rows, Answer, tableFrom, PolicyAnswer, PlanAnswer, WorkedAnswer}
+use Rattle.line.specs.Answers.{Rows, CaseAnswer, tableFrom, PolicyAnswer, PlanAnswer, WorkedAnswer}
 
 -- train t reported at y
 abbrev pub reported : ℕ → ℕ → (ℕ → ℕ) → ℕ → ℕ
@@ -21,9 +21,9 @@ reported t y delay i = ifSame i t y (delay i)
 -- Train t is reported at y, on a line by its source delays, over the rows of an answer before: that leaves the plan of
 -- the line as it then is. Over rows that no plan left, nothing but the rule fixes what it leaves.
 pub data Case : Type 0 where
-  policy plan : Line → Answer → Case
-  report : ℕ → ℕ → ((ℕ → ℕ) → Line) → (ℕ → ℕ) → Answer → Answer → Case
-  rework : ℕ → Rows → Line → Answer → Case
+  policy plan : Line → CaseAnswer → Case
+  report : ℕ → ℕ → ((ℕ → ℕ) → Line) → (ℕ → ℕ) → CaseAnswer → CaseAnswer → Case
+  rework : ℕ → Rows → Line → CaseAnswer → Case
 
 -- a plan works every row, so that none before is read
 abbrev pub Holds : Case → Type 0
@@ -66,25 +66,25 @@ lineD = lineIn 2 1 (0 ∷ 0 ∷ []) (0 ∷ 0 ∷ []) (nth (0 ∷ 10 ∷ [])) ((0
 
 -- ---- the table
 
-abbrev answer : List Decision → List ℕ → ℕ → Rows → Answer
+abbrev answer : List Decision → List ℕ → ℕ → Rows → CaseAnswer
 answer ds delays n rows = record { decisions = ds; delays = delays; total = n; rows = rows }
 
-abbrev pub a : Answer
+abbrev pub a : CaseAnswer
 a = answer [] (7 ∷ []) 21 ((21 ∷ []) ∷ [])
 
-abbrev pub b4 : Answer
+abbrev pub b4 : CaseAnswer
 b4 = answer (Go ∷ Keep ∷ []) (9 ∷ 3 ∷ 0 ∷ []) 176 ((176 ∷ 140 ∷ 54 ∷ []) ∷ (30 ∷ 0 ∷ []) ∷ (0 ∷ []) ∷ [])
 
-abbrev b5 : Answer
+abbrev b5 : CaseAnswer
 b5 = answer (Go ∷ Keep ∷ []) (9 ∷ 3 ∷ 0 ∷ []) 198 ((198 ∷ 162 ∷ 54 ∷ []) ∷ (30 ∷ 0 ∷ []) ∷ (0 ∷ []) ∷ [])
 
-abbrev pub b6 : Answer
+abbrev pub b6 : CaseAnswer
 b6 = answer (Keep ∷ Keep ∷ []) (9 ∷ 7 ∷ 2 ∷ []) 202 ((202 ∷ 166 ∷ 54 ∷ []) ∷ (30 ∷ 0 ∷ []) ∷ (0 ∷ []) ∷ [])
 
-abbrev pub b7 : Answer
+abbrev pub b7 : CaseAnswer
 b7 = answer (Keep ∷ Keep ∷ []) (5 ∷ 3 ∷ 0 ∷ []) 68 ((68 ∷ 48 ∷ 0 ∷ []) ∷ (30 ∷ 0 ∷ []) ∷ (0 ∷ []) ∷ [])
 
-abbrev pub b8 : Answer
+abbrev pub b8 : CaseAnswer
 b8 = answer (Keep ∷ Keep ∷ []) (5 ∷ 6 ∷ 1 ∷ []) 143 ((143 ∷ 123 ∷ 27 ∷ []) ∷ (80 ∷ 20 ∷ []) ∷ (0 ∷ []) ∷ [])
 
 -- rows 2 and 3 as no plan of line B leaves them

@@ -12,16 +12,16 @@ use Rattle.lists.specs.Run.{nth}
 use Rattle.lists.proofs.Order.{same-or-not}
 use Rattle.rail.specs.declared.Refusal.{Refusal}
 use Rattle.rail.specs.declared.Verdict.{Verdict}
-use Rattle.settle.specs.Buffers.{Buffers}
-use Rattle.planner.specs.declared.Answer.{Answer}
-use Rattle.planner.specs.Outcome.{answerNumber, answerPlace, answerTotal}
+use Rattle.planner.specs.Buffers.{Buffers}
+use Rattle.rail.specs.declared.Answer.{Answer}
+use Rattle.rail.specs.Answer.{answerNumber, answerPlace, answerCarries}
 use Rattle.planner.specs.Plan.{Plan}
 use Rattle.planner.specs.Report.{Report}
 use Rattle.demands.specs.Calling.{operations}
 use Rattle.demands.specs.Answered.{Carries, Answered, PlanAnswered, ReportAnswered}
 use Rattle.demands.proofs.Answered.{all-right}
 use Rattle.demands.proofs.Demands.{demand-1}
-use Rattle.oblachura.specs.Answers.{answerNumbers}
+use Rattle.oblachura.specs.AnswerNumbers.{answerNumbers}
 use Rattle.oblachura.specs.Calls.{PlanCall, Lent, lent, ReportCall}
 use Rattle.oblachura.specs.Demands.{Result, fromC}
 
@@ -35,7 +35,7 @@ pub record Says (a : Result) (b : Answer) : Type 0 where
 said-place : {a : Result} {b : Answer} → Says a b → nth (a .stored) 2 ≡ answerPlace b
 said-place s = ap (λ (l : List ℕ). nth l 2) (s .stores)
 
-pub said-total : {a : Result} {b : Answer} → Says a b → nth (a .stored) 3 ≡ answerTotal b
+pub said-total : {a : Result} {b : Answer} → Says a b → nth (a .stored) 3 ≡ answerCarries b
 said-total s = ap (λ (l : List ℕ). nth l 3) (s .stores)
 
 carries : {a : Result} {b : Answer} {r : Refusal} → Says a b → Carries operations r b → Carries fromC r a

@@ -7,13 +7,14 @@ use mathlib.Core.Logic.{inl, inr}
 use mathlib.Core.List.{List, _∷_}
 use lib.ListN.{length}
 use Rattle.lists.proofs.Order.{same-or-not}
-use Rattle.rail.specs.declared.Refusal.the-variants.{BufferLength}
+use Rattle.rail.specs.declared.ListFault.the-variants.{BufferLength}
+use Rattle.rail.specs.declared.Refusal.the-variants.{OfList}
 use Rattle.rail.specs.declared.Verdict.{Verdict}
 use Rattle.rail.specs.Refusal.{numberOf}
 use Rattle.rail.specs.Verdict.{numberIn, placeIn}
 use Rattle.rail.proofs.Refusing.{zero-is-fine}
 use Rattle.oblachura.specs.Call.{Told, Call}
-use Rattle.oblachura.specs.Promises.{One, Returns}
+use Rattle.oblachura.specs.CallPromises.{One, Returns}
 
 module _ {X A : Type 0} {n : ℕ} {number : A → ℕ} {numbers : A → List ℕ} {Leaves : X → A → Type 0} {before : X}
     {list : List ℕ} where
@@ -26,7 +27,7 @@ module _ {X A : Type 0} {n : ℕ} {number : A → ℕ} {numbers : A → List ℕ
       }
 
   -- nothing is written where the list has another length
-  pub call-wrong-list : {r : ℕ} → ¬ (length list ≡ n) → r ≡ numberOf BufferLength
+  pub call-wrong-list : {r : ℕ} → ¬ (length list ≡ n) → r ≡ numberOf (OfList BufferLength)
       → Call n number numbers Leaves before list before list r
   call-wrong-list other returns =
       record {

@@ -8,14 +8,15 @@ use mathlib.Core.List.{List, _∷_, []}
 use lib.ListN.{length}
 use Rattle.lists.proofs.Order.{same-or-not}
 use Rattle.bits.specs.Field.{Bytes}
-use Rattle.rail.specs.declared.Refusal.the-variants.{BufferLength}
+use Rattle.rail.specs.declared.ListFault.the-variants.{BufferLength}
+use Rattle.rail.specs.declared.Refusal.the-variants.{OfList}
 use Rattle.rail.specs.Refusal.{numberOf}
 use Rattle.sheet.specs.Accepted.{AcceptedSheet}
 use Rattle.sheet.specs.Numbers.{numbersOf}
-use Rattle.settle.specs.LineOf.{lineOf}
-use Rattle.settle.specs.Buffers.{Buffers}
-use Rattle.planner.specs.declared.Answer.{Answer}
-use Rattle.planner.specs.Outcome.{answerNumber, answerPlace}
+use Rattle.prepare.specs.LineOf.{lineOf}
+use Rattle.planner.specs.Buffers.{Buffers}
+use Rattle.rail.specs.declared.Answer.{Answer}
+use Rattle.rail.specs.Answer.{answerNumber, answerPlace}
 use Rattle.planner.specs.Plan.{Plan}
 use Rattle.planner.proofs.Outcome.{plan-outcome-one, report-outcome-one}
 use Rattle.demands.specs.Calling.{Right}
@@ -23,9 +24,9 @@ use Rattle.demands.specs.Answered.{PlanPossible, ReportPossible, Demand1}
 use Rattle.demands.specs.Least.{LeastPlan, Demand2}
 use Rattle.demands.specs.Runs.{planned, Begun, Demand3}
 use Rattle.demands.proofs.Demands.{demand-1, demand-2}
-use Rattle.oblachura.specs.Answers.{answerNumbers}
+use Rattle.oblachura.specs.AnswerNumbers.{answerNumbers}
 use Rattle.oblachura.specs.Calls.{PlanCall, lent, ReportCall}
-use Rattle.oblachura.specs.Promises.{One}
+use Rattle.oblachura.specs.CallPromises.{One}
 use Rattle.oblachura.specs.Demands.{Result, fromC, PlanStores, Demands}
 use Rattle.oblachura.proofs.Call.{call-told, call-wrong-list, call-one}
 use Rattle.oblachura.proofs.Answered.{said-total, Ran, plan-ran, plan-answered, report-answered}
@@ -38,7 +39,7 @@ resultOf : Answer → Result
 resultOf b = record { returned = answerNumber b; stored = answerNumbers b }
 
 unlisted : List ℕ → Result
-unlisted list = record { returned = numberOf BufferLength; stored = list }
+unlisted list = record { returned = numberOf (OfList BufferLength); stored = list }
 
 plan-possible : (list s : List ℕ) (before : Buffers) → PlanPossible fromC list s before
 unfolding resultOf unlisted

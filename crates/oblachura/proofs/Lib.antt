@@ -4,4 +4,4 @@ pub mod Refused
 pub mod Answered
 pub mod Runs
 pub mod Demands
-pub mod Promises
+pub mod CallPromises

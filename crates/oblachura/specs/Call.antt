@@ -10,7 +10,8 @@ use Prim.Native.Nat.{ℕ}
 use mathlib.Core.Path.{_≡_}
 use mathlib.Core.List.{List}
 use lib.ListN.{length}
-use Rattle.rail.specs.declared.Refusal.the-variants.{BufferLength}
+use Rattle.rail.specs.declared.ListFault.the-variants.{BufferLength}
+use Rattle.rail.specs.declared.Refusal.the-variants.{OfList}
 use Rattle.rail.specs.Refusal.{numberOf}
 
 -- Done a: what the operation promises where it answers a
@@ -22,7 +23,7 @@ pub record Told {A : Type 0} (number : A → ℕ) (numbers : A → List ℕ) (Do
   pub stores : stored ≡ numbers answer
 
 pub record WrongList {X : Type 0} (before : X) (list : List ℕ) (after : X) (stored : List ℕ) (r : ℕ) : Type 0 where
-  pub returns : r ≡ numberOf BufferLength
+  pub returns : r ≡ numberOf (OfList BufferLength)
   pub stores : stored ≡ list
   pub kept : after ≡ before
 

@@ -11,15 +11,15 @@
 use Prim.Native.Nat.{ℕ}
 use mathlib.Core.List.{List}
 use Rattle.sheet.specs.Numbers.{Lists}
-use Rattle.decoder.specs.Answers.{readNumber}
+use Rattle.reader.specs.Reading.{readNumber}
 use Rattle.reader.specs.Read.{Read}
-use Rattle.writer.specs.Write.{Given, Write, writeNumber}
-use Rattle.settle.specs.Buffers.{Buffers}
-use Rattle.planner.specs.declared.Answer.{Answer}
-use Rattle.planner.specs.Outcome.{answerNumber}
+use Rattle.writer.specs.Write.{Given, Write}
+use Rattle.planner.specs.Buffers.{Buffers}
+use Rattle.rail.specs.declared.Answer.{Answer}
+use Rattle.rail.specs.Answer.{answerNumber}
 use Rattle.planner.specs.Plan.{Plan}
 use Rattle.planner.specs.Report.{Report}
-use Rattle.oblachura.specs.Answers.{readNumbers, writeNumbers, answerNumbers}
+use Rattle.oblachura.specs.AnswerNumbers.{readNumbers, answerNumbers}
 use Rattle.oblachura.specs.Call.{Call}
 
 -- number, place, m and T
@@ -28,7 +28,7 @@ ReadCall s before = Call 4 readNumber readNumbers (Read s before) before
 
 -- number, place and length
 abbrev pub WriteCall : Given → List ℕ → List ℕ → List ℕ → List ℕ → ℕ → Type 0
-WriteCall G before = Call 3 writeNumber writeNumbers (Write G before) before
+WriteCall G before = Call 3 answerNumber answerNumbers (Write G before) before
 
 -- number, place and total
 abbrev pub PlanCall : List ℕ → Buffers → List ℕ → Buffers → List ℕ → ℕ → Type 0

@@ -12,11 +12,12 @@ use lib.ListN.{length}
 use Rattle.lists.specs.Run.{nth}
 use Rattle.line.specs.Policy.{total}
 use Rattle.sheet.specs.Numbers.{numbersOf}
-use Rattle.settle.specs.LineOf.{lineOf}
-use Rattle.settle.specs.Buffers.{Buffers}
+use Rattle.cells.specs.Shown.{policyIn}
+use Rattle.prepare.specs.LineOf.{lineOf}
+use Rattle.planner.specs.Buffers.{Buffers}
 use Rattle.demands.specs.Calling.{Calling}
 use Rattle.demands.specs.Answered.{Demand1}
-use Rattle.demands.specs.Least.{policyIn, Demand2}
+use Rattle.demands.specs.Least.{Demand2}
 use Rattle.demands.specs.Runs.{Demand3}
 use Rattle.oblachura.specs.Calls.{PlanCall, lent, ReportCall}
 

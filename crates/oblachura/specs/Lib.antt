@@ -1,5 +1,5 @@
-pub mod Answers
+pub mod AnswerNumbers
 pub mod Call
 pub mod Calls
 pub mod Demands
-pub mod Promises
+pub mod CallPromises

@@ -6,13 +6,12 @@ mod telling;
 
 ghost use Rattle.sheet.specs.Numbers.{lists};
 ghost use Rattle.writer.specs.Write.{given};
-ghost use Rattle.settle.specs.Buffers.{buffers};
+ghost use Rattle.planner.specs.Buffers.{buffers};
 ghost use Rattle.oblachura.specs.Calls.{ReadCall, WriteCall, PlanCall, lent, ReportCall};
 use crate::telling::ANSWER;
 use crate::telling::READ_ANSWER;
 use crate::telling::tell_answer;
 use crate::telling::tell_reading;
-use crate::telling::tell_writing;
 use crate::telling::wrong_list;
 use planner::plan;
 use planner::report;
@@ -66,7 +65,7 @@ pub extern "C" fn oblachura_write(
     if answer.len() != ANSWER {
         return wrong_list();
     }
-    tell_writing(
+    tell_answer(
         write(m, period, departures, driving, delays, passengers, sheet),
         answer,
     )

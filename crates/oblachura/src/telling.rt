@@ -2,16 +2,16 @@
 ghost use mathlib.Core.Path.{_≡_};
 ghost use mathlib.Core.List.{_∷_, []};
 ghost use lib.ListN.{length};
-ghost use Rattle.rail.specs.declared.Refusal.the-variants.{BufferLength};
+ghost use Rattle.rail.specs.declared.ListFault.the-variants.{BufferLength};
+ghost use Rattle.rail.specs.declared.Refusal.the-variants.{OfList};
 ghost use Rattle.rail.specs.Refusal.{numberOf};
-ghost use Rattle.decoder.specs.Answers.{readNumber};
-ghost use Rattle.writer.specs.Write.{writeNumber};
-ghost use Rattle.planner.specs.Outcome.{answerNumber};
-ghost use Rattle.oblachura.specs.Answers.{readNumbers, writeNumbers, answerNumbers};
-use decoder::Reading;
-use planner::Answer;
+ghost use Rattle.reader.specs.Reading.{readNumber};
+ghost use Rattle.rail.specs.Answer.{answerNumber};
+ghost use Rattle.oblachura.specs.AnswerNumbers.{readNumbers, answerNumbers};
+use rail::Answer;
+use rail::ListFault;
 use rail::Refusal;
-use writer::Writing;
+use reader::Reading;
 
 // How many numbers read stores, and how many the others.
 pub const READ_ANSWER: usize = 4;
@@ -20,9 +20,9 @@ pub const ANSWER: usize = 3;
 
 // What a call returns whose list has another length.
 pub fn wrong_list() -> u32
-    ensures { λ r. ⌜ r ≡ numberOf BufferLength ⌝ }
+    ensures { λ r. ⌜ r ≡ numberOf (OfList BufferLength) ⌝ }
 {
-    Refusal::BufferLength.number()
+    Refusal::OfList(ListFault::BufferLength).number()
 }
 
 // Number, place and the one number that an accepted call brings. The number is returned too.
@@ -58,22 +58,12 @@ pub fn tell_reading(told: Reading, answer: &mut [u64]) -> u32
     store_four(answer, number, place, told.trains(), told.period())
 }
 
-// What write answered.
-pub fn tell_writing(told: Writing, answer: &mut [u64]) -> u32
-    requires { ⌜ length (now answer) ≡ 3 ⌝ }
-    ensures { λ r. ⌜ (r ≡ writeNumber told) × (now (answer .exit) ≡ writeNumbers told) ⌝ }
-{
-    let number = told.number();
-    let place = told.place();
-    store_three(answer, number, place, told.length() as u64)
-}
-
-// What plan or report answered.
+// What write, plan or report answered.
 pub fn tell_answer(told: Answer, answer: &mut [u64]) -> u32
     requires { ⌜ length (now answer) ≡ 3 ⌝ }
     ensures { λ r. ⌜ (r ≡ answerNumber told) × (now (answer .exit) ≡ answerNumbers told) ⌝ }
 {
     let number = told.number();
     let place = told.place();
-    store_three(answer, number, place, told.total())
+    store_three(answer, number, place, told.carries())
 }

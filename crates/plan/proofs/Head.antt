@@ -10,10 +10,10 @@ use Rattle.rail.proofs.Refusing.{zero-is-fine}
 use Rattle.sheet.specs.Format.{trainsOf}
 use Rattle.sheet.specs.Accepted.{AcceptedSheet}
 use Rattle.sheet.proofs.Lengths.{bytes-bits, layout}
-use Rattle.settle.specs.Buffers.{Buffers}
-use Rattle.planner.specs.declared.Answer.{Answer}
-use Rattle.planner.specs.declared.Answer.the-variants.{Accepted}
-use Rattle.planner.specs.Outcome.{answerNumber}
+use Rattle.planner.specs.Buffers.{Buffers}
+use Rattle.rail.specs.declared.Answer.{Answer}
+use Rattle.rail.specs.declared.Answer.the-variants.{Accepted}
+use Rattle.rail.specs.Answer.{answerNumber}
 use Rattle.planner.specs.Plan.{planVerdict, Plan}
 use Rattle.planner.proofs.Refusals.{accepted-of-plan}
 

@@ -1,9 +1,10 @@
--- Which refusals checks can give: what holds of each that they name holds of the one that they give. And no refusal has
--- number 0.
+-- Which refusals checks can give: what holds of each that they name holds of the one that they give. And what
+-- the numbers of the refusals tell.
 --   Only P v   whatever the verdict v refuses for, P holds of it
 --   Each P checks   of each check, P holds of what it refuses for, or it passes
 -- Assumes nothing.
 use mathlib.Core.Path.{_≡_, refl, sym, _∙_}
+use mathlib.Core.Bool.{true, false}
 use mathlib.Core.List.{List, [], _∷_}
 use mathlib.Core.Logic.{_⊎_, inl, inr}
 use Prim.Native.Nat.{ℕ, zero, suc, _+_}
@@ -17,7 +18,7 @@ use Rattle.rail.specs.declared.Refusal.{Refusal}
 use Rattle.rail.specs.declared.Refusal.the-variants.{OfList, OfHead, OfTrain, Passengers, Filling, OfReport}
 use Rattle.rail.specs.declared.Verdict.{Verdict}
 use Rattle.rail.specs.declared.Verdict.the-variants.{Fine, Refused}
-use Rattle.rail.specs.Refusal.{numberOf}
+use Rattle.rail.specs.Refusal.{numberOf, blanksOf}
 use Rattle.rail.specs.Verdict.{Check, verdictOf, _andThen_, firstOf, numberIn}
 use Rattle.rail.proofs.Checks.{Passes, refusalOf, refused-not-fine, check-or-rest}
 
@@ -58,25 +59,31 @@ module _ (P : Refusal → Type 0) where
 
 -- ---- numbers
 
-number-not-zero : (r : Refusal) → numberOf r ≡ 0 → ⊥
-number-not-zero (OfList BufferLength) e = omega arith
-number-not-zero (OfList ListLength) e = omega arith
-number-not-zero (OfHead NoHead) e = omega arith
-number-not-zero (OfHead TrainCount) e = omega arith
-number-not-zero (OfHead Period) e = omega arith
-number-not-zero (OfHead TooShort) e = omega arith
-number-not-zero (OfHead TooLong) e = omega arith
-number-not-zero (OfTrain t Departure) e = omega arith
-number-not-zero (OfTrain t Driving) e = omega arith
-number-not-zero (OfTrain t SourceDelay) e = omega arith
-number-not-zero (OfTrain t Slack) e = omega arith
-number-not-zero (Passengers f) e = omega arith
-number-not-zero Filling e = omega arith
-number-not-zero (OfReport NoSuchTrain) e = omega arith
-number-not-zero (OfReport (NewDelay t)) e = omega arith
-number-not-zero (OfReport (CellOverLimit t)) e = omega arith
+-- a refusal's number is not 0; it is 10 where the refusal writes nothing, and another where it blanks
+abbrev Numbered : Refusal → Type 0
+Numbered r =
+    ¬ (numberOf r ≡ 0)
+    × (((numberOf r ≡ 10) × (blanksOf r ≡ false)) ⊎ (¬ (numberOf r ≡ 10) × (blanksOf r ≡ true)))
+
+pub numbered : (r : Refusal) → Numbered r
+numbered (OfList BufferLength) = (λ e. omega arith, inl (refl, refl))
+numbered (OfList ListLength) = (λ e. omega arith, inl (refl, refl))
+numbered (OfHead NoHead) = (λ e. omega arith, inr (λ e. omega arith, refl))
+numbered (OfHead TrainCount) = (λ e. omega arith, inr (λ e. omega arith, refl))
+numbered (OfHead Period) = (λ e. omega arith, inr (λ e. omega arith, refl))
+numbered (OfHead TooShort) = (λ e. omega arith, inr (λ e. omega arith, refl))
+numbered (OfHead TooLong) = (λ e. omega arith, inr (λ e. omega arith, refl))
+numbered (OfTrain t Departure) = (λ e. omega arith, inr (λ e. omega arith, refl))
+numbered (OfTrain t Driving) = (λ e. omega arith, inr (λ e. omega arith, refl))
+numbered (OfTrain t SourceDelay) = (λ e. omega arith, inr (λ e. omega arith, refl))
+numbered (OfTrain t Slack) = (λ e. omega arith, inr (λ e. omega arith, refl))
+numbered (Passengers f) = (λ e. omega arith, inr (λ e. omega arith, refl))
+numbered Filling = (λ e. omega arith, inr (λ e. omega arith, refl))
+numbered (OfReport NoSuchTrain) = (λ e. omega arith, inr (λ e. omega arith, refl))
+numbered (OfReport (NewDelay t)) = (λ e. omega arith, inr (λ e. omega arith, refl))
+numbered (OfReport (CellOverLimit t)) = (λ e. omega arith, inr (λ e. omega arith, refl))
 
 -- number 0 is that of no refusal
 pub zero-is-fine : (v : Verdict) → numberIn v ≡ 0 → v ≡ Fine
 zero-is-fine Fine e = refl
-zero-is-fine (Refused r) e = absurd (number-not-zero r e)
+zero-is-fine (Refused r) e = absurd (numbered r .0 e)

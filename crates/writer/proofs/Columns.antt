@@ -12,7 +12,7 @@ use Rattle.bits.specs.Field.{Put}
 use Rattle.bits.proofs.Puts.{put-apart}
 use Rattle.sheet.specs.declared.format.Column.{Column}
 use Rattle.sheet.specs.Format.{entry}
-use Rattle.writer.specs.Steps.{ColumnPut}
+use Rattle.writer.specs.Putting.{ColumnPut}
 
 pub column-none : (s : List ℕ) (c : Column) (l : List ℕ) → ColumnPut s c 0 l s
 column-none s c l = record { long = refl; holds = λ k b. absurd (not-suc-le-zero b); others = λ a w h. refl }

@@ -15,7 +15,7 @@ use Rattle.sheet.specs.Numbers.{numbersOf}
 use Rattle.sheet.specs.Accepted.{SameNumbers, SheetOf}
 use Rattle.sheet.proofs.Lengths.{layout, bytes-bits, train-within, passengers-within, trains-apart}
 use Rattle.writer.specs.Write.{Given, numbersGiven}
-use Rattle.writer.specs.Steps.{PutRoom, ColumnPut, HeadRoom, HeadPut, TimesRoom, TimesPut, FillingPut, Writable}
+use Rattle.writer.specs.Putting.{PutRoom, ColumnPut, HeadRoom, HeadPut, TimesRoom, TimesPut, FillingPut, Writable}
 
 -- ---- what the steps need
 

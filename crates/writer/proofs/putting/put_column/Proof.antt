@@ -6,7 +6,7 @@ use Prim.Native.Nat.{_≤_, _-_, _+_, _*_}
 use native.Mathlib.Omega.{arith}
 use Rattle.bits.specs.Field.{Within}
 use Rattle.bits.proofs.Fields.{within-same}
-use Rattle.writer.specs.Steps.{ColumnPut}
+use Rattle.writer.specs.Putting.{ColumnPut}
 use Rattle.writer.proofs.Columns.{column-none, column-next}
 use Rattle.writer.proofs.putting.put_column.Statement.{statement}
 use Rattle.writer.proofs.putting.put_column.Tie as tie

@@ -3,7 +3,7 @@
 use borrow.Author.Needs.{needs}
 use mathlib.Core.Path.{refl, _∙_}
 use Rattle.sheet.specs.Format.{departureColumn, drivingColumn}
-use Rattle.writer.specs.Steps.{ColumnPut}
+use Rattle.writer.specs.Putting.{ColumnPut}
 use Rattle.writer.proofs.Whole.{departures-room, driving-room, delays-room, times-put}
 use Rattle.writer.proofs.putting.put_times.Statement.{statement}
 use Rattle.writer.proofs.putting.put_times.Tie as tie

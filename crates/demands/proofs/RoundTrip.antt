@@ -18,19 +18,19 @@ use Rattle.sheet.specs.Accepted.{Lengths, AcceptedSheet, SameNumbers, SheetOf}
 use Rattle.sheet.proofs.Lengths.{pairs-le}
 use Rattle.sheet.proofs.Facts.{fine-of-lengths, accepted-of-fine, fine-of-accepted}
 use Rattle.sheet.proofs.Meaning.{same-sym, in-range-same, sheet-of-one, sheet-of-accepted, accepted-sheet-of}
-use Rattle.decoder.specs.Answers.{readingOf}
+use Rattle.reader.specs.Reading.{readingOf}
 use Rattle.reader.specs.Read.{readVerdict, Read}
-use Rattle.decoder.proofs.Answers.{accepted-fine}
+use Rattle.reader.proofs.ReadingOf.{accepted-fine}
 use Rattle.writer.specs.Write.{Given, numbersGiven, writingOf, writeVerdict, Write, Accepts}
 use Rattle.writer.proofs.Outcome.{written-fine}
 use Rattle.writer.proofs.Facts.{accepts-of-fine, fine-of-accepts}
 use Rattle.rail.specs.declared.Verdict.{Verdict}
 use Rattle.bits.specs.Field.{Bytes}
-use Rattle.decoder.specs.declared.Reading.{Reading}
-use Rattle.decoder.specs.declared.Reading.the-variants.{Accepted as ReadAccepted}
-use Rattle.writer.specs.declared.Writing.{Writing}
-use Rattle.writer.specs.declared.Writing.the-variants.{Accepted as WriteAccepted}
-use Rattle.meaning.specs.OneMeaning.{givenFrom, ReadThenWrite, WriteThenRead, EqualFields}
+use Rattle.reader.specs.declared.Reading.{Reading}
+use Rattle.reader.specs.declared.Reading.the-variants.{Accepted as ReadAccepted}
+use Rattle.rail.specs.declared.Answer.{Answer}
+use Rattle.rail.specs.declared.Answer.the-variants.{Accepted as WriteAccepted}
+use Rattle.demands.specs.OneMeaning.{givenFrom, ReadThenWrite, WriteThenRead, EqualFields}
 
 pub equal-fields : EqualFields
 equal-fields s t bs bt fs ft same =

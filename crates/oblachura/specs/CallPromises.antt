@@ -5,7 +5,7 @@
 --   Returns n list checks brought stored r     what is returned and stored, by the length of the list and by the checks
 --   readBrings, writeBrings, planBrings, reportBrings     what each call stores behind number and place
 --   Refuses before after r       what a plan or a report leaves that returned another number than 0
---   Promises                     all of it, of each call
+--   CallPromises                 all of it, of each call
 -- Assumes nothing.
 use Prim.Native.Nat.{ℕ}
 use mathlib.Core.Path.{_≡_}
@@ -20,12 +20,11 @@ use Rattle.sheet.specs.Numbers.{Lists, numbersOf}
 use Rattle.reader.specs.Read.{readVerdict}
 use Rattle.writer.specs.Write.{Given, writeVerdict}
 use Rattle.cells.specs.Place.{tableOf}
-use Rattle.settle.specs.LineOf.{lineOf}
-use Rattle.settle.specs.Buffers.{Buffers}
+use Rattle.cells.specs.Shown.{policyIn}
+use Rattle.prepare.specs.LineOf.{lineOf}
+use Rattle.planner.specs.Buffers.{Buffers, Blanked}
 use Rattle.planner.specs.Plan.{planVerdict}
 use Rattle.planner.specs.Report.{reportVerdict}
-use Rattle.demands.specs.Answered.{Blanked}
-use Rattle.demands.specs.Least.{policyIn}
 use Rattle.oblachura.specs.Calls.{ReadCall, WriteCall, PlanCall, Lent, ReportCall}
 use Rattle.oblachura.specs.Demands.{Demands}
 
@@ -69,7 +68,7 @@ pub record Refuses (before after : Buffers) (r : ℕ) : Type 0 where
   -- any other refusal blanks the decisions and the delays, and changes no cell
   pub blanks : ¬ (r ≡ 0) → ¬ (r ≡ 10) → Blanked before after
 
-pub record Promises : Type 0 where
+pub record CallPromises : Type 0 where
   -- Of plan and report the three demands; the first says that they leave nothing open.
   pub demands : Demands
   pub one-read : (s : List ℕ) (before : Lists) (list : List ℕ) → One (ReadCall s before list)

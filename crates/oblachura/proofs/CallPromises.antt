@@ -6,20 +6,25 @@ use mathlib.Core.Logic.{inl, inr}
 use mathlib.Core.List.{List, _∷_, []}
 use lib.ListN.{length}
 use Rattle.lists.proofs.Order.{same-or-not}
-use Rattle.rail.specs.Verdict.{numberIn}
+use Rattle.rail.specs.declared.Verdict.{Verdict}
+use Rattle.rail.specs.declared.Answer.{Answer}
+use Rattle.rail.specs.Verdict.{numberIn, placeIn}
+use Rattle.rail.specs.Answer.{answerNumber, answerPlace, answerCarries}
 use Rattle.rail.proofs.Checks.{fine-or-refused, if-fine, if-refused}
+use Rattle.rail.proofs.Answers.{answer-number, answer-place, answer-carries}
 use Rattle.line.specs.Line.{lineFrom}
-use Rattle.settle.specs.LineOf.{lineOf}
-use Rattle.settle.specs.Buffers.{Buffers}
-use Rattle.planner.specs.declared.Answer.{Answer}
-use Rattle.planner.specs.Outcome.{answerTotal}
+use Rattle.prepare.specs.LineOf.{lineOf}
+use Rattle.planner.specs.Buffers.{Buffers}
+use Rattle.planner.specs.Outcome.{Outcome}
 use Rattle.planner.specs.Plan.{planVerdict, Plan}
 use Rattle.planner.specs.Report.{reportVerdict}
-use Rattle.reader.proofs.Outcome.{read-one}
+use Rattle.planner.proofs.Outcome.{outcome-number, outcome-place, refused-carries}
+use Rattle.reader.proofs.Stored.{read-one, read-number, read-place, read-trains, read-period}
 use Rattle.writer.proofs.Outcome.{write-one}
 use Rattle.demands.proofs.Demands.{demand-2}
+use Rattle.oblachura.specs.AnswerNumbers.{answerNumbers}
 use Rattle.oblachura.specs.Calls.{PlanCall, Lent, ReportLeaves, ReportCall}
-use Rattle.oblachura.specs.Promises.{planBrings, reportBrings, Refuses, Promises}
+use Rattle.oblachura.specs.CallPromises.{planBrings, reportBrings, Refuses, CallPromises}
 use Rattle.oblachura.proofs.Call.{call-one, call-returns}
 use Rattle.oblachura.proofs.Refused.{kept-refuses, outcome-refuses}
 use Rattle.oblachura.proofs.Demands.{demands}
@@ -39,7 +44,7 @@ report-refuses i v before list after stored r h = elim (same-or-not (length list
       let t = h .told long in (
         outcome-refuses _ _ (t .answer) (t .returns) (t .done .outcome),
         λ not-zero. elim (fine-or-refused (reportVerdict (before .sheet) i v (before .buffers))) [
-          | inl fine ↦ absurd (not-zero (t .returns ∙ t .done .outcome .number ∙ ap numberIn fine))
+          | inl fine ↦ absurd (not-zero (t .returns ∙ outcome-number _ _ _ _ _ (t .done .outcome) ∙ ap numberIn fine))
           | inr (q, e) ↦ t .done .kept q e
         ],
       )
@@ -53,44 +58,54 @@ report-refuses i v before list after stored r h = elim (same-or-not (length list
 -- ---- what is stored behind number and place
 
 plan-brings : (s : List ℕ) (before after : Buffers) (a : Answer) → Plan s before after a
-    → answerTotal a ∷ [] ≡ planBrings s before after
+    → answerCarries a ∷ [] ≡ planBrings s before after
 plan-brings s before after a h = elim (fine-or-refused (planVerdict s before)) [
   | inl fine ↦
-      let least = demand-2 .accepted-plan-is-least tt s before after a h (h .number ∙ ap numberIn fine) in
+      let least = demand-2 .accepted-plan-is-least tt s before after a h
+      (outcome-number _ _ _ _ a h ∙ ap numberIn fine) in
       ap (λ (x : ℕ). x ∷ []) (least .told ∙ if-fine _ _ _ (sym fine))
-  | inr (r, e) ↦ ap (λ (x : ℕ). x ∷ []) (ap answerTotal (h .refused r e .answer) ∙ if-refused _ _ _ (sym e))
+  | inr (r, e) ↦ ap (λ (x : ℕ). x ∷ []) (refused-carries _ _ _ _ a h r e ∙ if-refused _ _ _ (sym e))
 ]
 
 report-brings : (i v : ℕ) (before after : Lent) (a : Answer) → ReportLeaves i v before after a
-    → answerTotal a ∷ [] ≡ reportBrings i v before after
+    → answerCarries a ∷ [] ≡ reportBrings i v before after
 unfolding lineOf lineFrom
 report-brings i v before after a h = elim (fine-or-refused (reportVerdict (before .sheet) i v (before .buffers))) [
   | inl fine ↦
       ap (λ (x : ℕ). x ∷ []) (h .outcome .accepted fine .settled .total ∙ if-fine _ _ _ (sym fine))
   | inr (r, e) ↦
-      ap (λ (x : ℕ). x ∷ []) (ap answerTotal (h .outcome .refused r e .answer) ∙ if-refused _ _ _ (sym e))
+      ap (λ (x : ℕ). x ∷ []) (refused-carries _ _ _ _ a (h .outcome) r e ∙ if-refused _ _ _ (sym e))
 ]
 
-pub promises : Promises
-promises =
+-- number and place are those of the checks
+outcome-tells : (checks : Verdict) (Stored : ℕ → Type 0) (before after : Buffers) (a : Answer) (brought : List ℕ)
+    → Outcome checks Stored before after a → answerCarries a ∷ [] ≡ brought
+    → (answerNumber a ≡ numberIn checks) × (answerNumbers a ≡ numberIn checks ∷ placeIn checks ∷ brought)
+outcome-tells checks Stored before after a brought h brings =
+    let number = outcome-number checks Stored before after a h in
+    let place = outcome-place checks Stored before after a h in
+    (number, λ k. number k ∷ place k ∷ brings k)
+
+pub call-promises : CallPromises
+call-promises =
     record {
       demands = demands;
       one-read = λ s before list. call-one (read-one s before);
       one-write = λ G before list. call-one (write-one G before);
       read-returns = λ s before list after stored r.
-          call-returns _ _
-          (λ a g. (g .number, λ k. g .number k ∷ g .place k ∷ g .trains k ∷ g .period k ∷ []));
+          call-returns _ _ (λ a g.
+          let number = read-number _ _ _ _ g in
+          (number, λ k. number k ∷ read-place _ _ _ _ g k ∷ read-trains _ _ _ _ g k ∷ read-period _ _ _ _ g k ∷ []));
       write-returns = λ G before list after stored r.
-          call-returns _ _ (λ a g. (g .number, λ k. g .number k ∷ g .place k ∷ g .long k ∷ []));
+          call-returns _ _ (λ a g.
+          let number = ap answerNumber (g .answer) ∙ answer-number _ _ in
+          let place = ap answerPlace (g .answer) ∙ answer-place _ _ in
+          let long = ap answerCarries (g .answer) ∙ answer-carries _ _ in
+          (number, λ k. number k ∷ place k ∷ long k ∷ []));
       plan-returns = λ s before list after stored r.
-          call-returns _ _ (λ a g. (g .number, λ k. g .number k ∷ g .place k ∷ plan-brings s before after a g k));
+          call-returns _ _ (λ a g. outcome-tells _ _ _ _ a _ g (plan-brings s before after a g));
       report-returns = λ i v before list after stored r.
-          call-returns _ _
-          (λ a g. (
-            g .outcome .number,
-            λ k.
-                g .outcome .number k ∷ g .outcome .place k ∷ report-brings i v before after a g k,
-          ));
+          call-returns _ _ (λ a g. outcome-tells _ _ _ _ a _ (g .outcome) (report-brings i v before after a g));
       plan-refuses = plan-refuses;
       report-refuses = report-refuses;
     }

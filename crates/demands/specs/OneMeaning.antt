@@ -1,8 +1,9 @@
--- Each accepted sheet has one meaning and comes back bit for bit: the second half of demand 2. The statements are about
--- the promises of read and write alone, so they hold of whatever keeps those promises.
+-- Demand 2, second half: each accepted sheet has one meaning and comes back bit for bit. The statements are about the
+-- promises of read and write alone, so they hold of whatever keeps those promises.
 --   ReadThenWrite   what read gives of an accepted sheet, write accepts, and it writes that sheet
 --   WriteThenRead   what write wrote, read accepts, and it gives the same numbers
 --   EqualFields     two accepted sheets with equal fields are equal
+--   OneMeaning      all three
 -- Assumes nothing.
 use Prim.Native.Nat.{ℕ}
 use mathlib.Core.Path.{_≡_}
@@ -14,11 +15,11 @@ use Rattle.sheet.specs.Format.{pairsOf}
 use Rattle.sheet.specs.Numbers.{Lists, lists, numbersOf}
 use Rattle.sheet.specs.Checks.{sheetVerdict}
 use Rattle.sheet.specs.Accepted.{Lengths, SameNumbers}
-use Rattle.decoder.specs.declared.Reading.{Reading}
-use Rattle.decoder.specs.declared.Reading.the-variants.{Accepted as ReadAccepted}
+use Rattle.reader.specs.declared.Reading.{Reading}
+use Rattle.reader.specs.declared.Reading.the-variants.{Accepted as ReadAccepted}
 use Rattle.reader.specs.Read.{Read}
-use Rattle.writer.specs.declared.Writing.{Writing}
-use Rattle.writer.specs.declared.Writing.the-variants.{Accepted as WriteAccepted}
+use Rattle.rail.specs.declared.Answer.{Answer}
+use Rattle.rail.specs.declared.Answer.the-variants.{Accepted as WriteAccepted}
 use Rattle.writer.specs.Write.{Given, given, Write}
 
 -- the first m places of three lists and the first m(m+1)/2 of the fourth, as write takes them
@@ -29,7 +30,7 @@ givenFrom m T L =
 
 abbrev pub ReadThenWrite : Type 0
 ReadThenWrite =
-    (s : List ℕ) (before after : Lists) (m T : ℕ) (buffer written : List ℕ) (w : Writing)
+    (s : List ℕ) (before after : Lists) (m T : ℕ) (buffer written : List ℕ) (w : Answer)
     → Bytes s
     → Read s before after (ReadAccepted m T)
     → length buffer ≡ 3907
@@ -53,3 +54,8 @@ EqualFields =
     → sheetVerdict t ≡ Fine
     → SameNumbers (numbersOf s) (numbersOf t)
     → s ≡ t
+
+pub record OneMeaning : Type 0 where
+  pub read-then-write : ReadThenWrite
+  pub write-then-read : WriteThenRead
+  pub equal-fields : EqualFields

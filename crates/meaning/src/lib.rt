@@ -1,2 +1,0 @@
-// One meaning: every accepted sheet comes back bit for bit. No code; the statements are in specs/,
-// their proofs in proofs/.
