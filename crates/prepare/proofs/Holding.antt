@@ -1,0 +1,127 @@
+-- Lists that hold the times and the sums of a line: one train more, one source delay replaced, and the same numbers.
+-- Assumes nothing.
+use mathlib.Core.Path.{_≡_, refl, ap, sym, _∙_}
+use mathlib.Core.List.{List}
+use mathlib.Core.Logic.{inl, inr}
+use Prim.Native.Nat.{ℕ, _+_, _-_, _≤_, _<_}
+use native.Mathlib.Omega.{arith}
+use lib.ListN.{length, getD, set, length-set}
+use lib.Seq.{getD-set-same, getD-set-other}
+use Rattle.lists.proofs.Order.{same-or-not}
+use Rattle.lists.proofs.Choice.{same-yes, same-no}
+use Rattle.line.proofs.Sums.{sum-over, over-same}
+use Rattle.sheet.specs.Numbers.{Times, Numbers}
+use Rattle.sheet.specs.Accepted.{SameNumbers, withDelay}
+use Rattle.sheet.specs.Pairs.{passengersOfPair}
+use Rattle.cells.specs.Timing.{placeOfSlack, placeOfSource, placeOfPeriod, slackIn, sourceIn, periodIn}
+use Rattle.prepare.specs.Prepared.{HoldsTimes, HoldsSums, TimingOf, SumsOf}
+use Rattle.prepare.proofs.Lines.{passengers-same}
+
+-- ---- one train more
+
+pub times-none : (T : ℕ) (x : Times) (timing : List ℕ) → length timing ≡ 192 → HoldsTimes 0 T x timing
+times-none T x timing long =
+    record {
+      long = long;
+      slack = λ i a b. absurd (omega arith);
+      source = λ i a b. absurd (omega arith);
+      period = λ i a b. absurd (omega arith);
+    }
+
+-- slack, source delay and period of train i are stored, and those of the trains before it were there
+module _ (i T : ℕ) (x : Times) (timing : List ℕ) (minutes : ℕ) (least : 1 ≤ i) (most : i ≤ 64)
+    (H : HoldsTimes (i - 1) T x timing)
+    (taken : 2 ≤ i → minutes ≡ x .departure i - x .departure (i - 1) - x .driving (i - 1)) where
+  abbrev with-slack : List ℕ
+  with-slack = set timing (placeOfSlack i) minutes
+
+  abbrev with-source : List ℕ
+  with-source = set with-slack (placeOfSource i) (x .delay i)
+
+  abbrev with-period : List ℕ
+  with-period = set with-source (placeOfPeriod i) T
+
+  long : length with-source ≡ 192
+  long = simp length-set (H .long)
+
+  -- what stands in another train's place is as it was
+  other : (p : ℕ) → ¬ (p ≡ placeOfSlack i) → ¬ (p ≡ placeOfSource i) → ¬ (p ≡ placeOfPeriod i)
+      → getD with-period p 0 ≡ getD timing p 0
+  other p a b c =
+      getD-set-other with-source _ p T 0 c ∙ getD-set-other with-slack _ p _ 0 b ∙ getD-set-other timing _ p minutes 0 a
+
+  pub times-next : HoldsTimes i T x with-period
+  unfolding slackIn sourceIn periodIn
+  times-next =
+      record {
+        long = simp length-set (H .long);
+        slack = λ j a b. elim (same-or-not j i) [
+          | inl same ↦ rw same (
+              getD-set-other with-source _ (placeOfSlack i) T 0 (λ e. omega arith)
+              ∙ getD-set-other with-slack _ (placeOfSlack i) _ 0 (λ e. omega arith)
+              ∙ getD-set-same timing (placeOfSlack i) minutes 0 (omega (arith, H .long)) ∙ taken (omega arith))
+          | inr not ↦ other _ (λ e. not (omega arith)) (λ e. omega arith) (λ e. omega arith)
+              ∙ H .slack j a (omega arith)
+        ];
+        source = λ j a b. elim (same-or-not j i) [
+          | inl same ↦ rw same (
+              getD-set-other with-source _ (placeOfSource i) T 0 (λ e. omega arith)
+              ∙ getD-set-same with-slack (placeOfSource i) _ 0 (simp length-set (omega (arith, H .long))))
+          | inr not ↦ other _ (λ e. omega arith) (λ e. not (omega arith)) (λ e. omega arith)
+              ∙ H .source j a (omega arith)
+        ];
+        period = λ j a b. elim (same-or-not j i) [
+          | inl same ↦ rw same (getD-set-same with-source (placeOfPeriod i) T 0 (omega (arith, long)))
+          | inr not ↦ other _ (λ e. omega arith) (λ e. omega arith) (λ e. not (omega arith))
+              ∙ H .period j a (omega arith)
+        ];
+      }
+
+-- ---- one source delay replaced
+
+pub timing-with-delay : (N : Numbers) (i v : ℕ) (timing : List ℕ) → 1 ≤ i → i ≤ N .trains → N .trains ≤ 64
+    → TimingOf N timing → TimingOf (withDelay N i v) (set timing (placeOfSource i) v)
+unfolding slackIn sourceIn periodIn
+timing-with-delay N i v timing least most few H =
+    record {
+      long = simp length-set (H .long);
+      slack = λ j a b. getD-set-other timing _ (placeOfSlack j) v 0 (λ e. omega arith) ∙ H .slack j a b;
+      source = λ j a b. elim (same-or-not j i) [
+        | inl same ↦
+            rw same (getD-set-same timing (placeOfSource i) v 0 (omega (arith, H .long))) ∙ sym (same-yes v _ same)
+        | inr not ↦
+            getD-set-other timing _ (placeOfSource j) v 0 (λ e. not (omega arith)) ∙ H .source j a b
+            ∙ sym (same-no v _ not)
+      ];
+      period = λ j a b. getD-set-other timing _ (placeOfPeriod j) v 0 (λ e. omega arith) ∙ H .period j a b;
+    }
+
+-- ---- the same numbers
+
+module _ (N M : Numbers) (same : SameNumbers N M) where
+  pub timing-of-same : (timing : List ℕ) → TimingOf N timing → TimingOf M timing
+  timing-of-same timing H =
+      let m = same .trains in
+      record {
+        long = H .long;
+        slack = λ i a b.
+            H .slack i a (omega arith)
+            ∙ rw (
+              same .departure i (omega arith) b,
+              same .departure (i - 1) (omega arith) (omega arith),
+              same .driving (i - 1) (omega arith) (omega arith),
+            ) refl;
+        source = λ i a b. H .source i a (omega arith) ∙ same .delay i a b;
+        period = λ s a b. H .period s a (omega arith) ∙ same .period;
+      }
+
+  pub sums-of-same : (sums : List ℕ) → SumsOf N sums → SumsOf M sums
+  sums-of-same sums H =
+      let m = same .trains in
+      record {
+        long = H .long;
+        leaving = λ k l a b c.
+            H .leaving k l a b (omega arith) ∙ sum-over _ k l
+            ∙ over-same k (l + 1) _ _ (λ i u v. passengers-same N M same i (l + 1) (omega arith) v (omega arith))
+            ∙ sym (sum-over _ k l);
+      }

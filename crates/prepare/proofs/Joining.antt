@@ -1,0 +1,133 @@
+-- The lists that hold a line's times and sums are what cells are worked from: their numbers are in range, and the book
+-- that they make is alike to that of the line. And what preparing them needs, of lists whose numbers are in range.
+-- Assumes nothing.
+use mathlib.Core.Path.{_≡_, refl, ap, ap₂, sym, _∙_}
+use mathlib.Core.List.{List}
+use Prim.Native.Nat.{ℕ, _+_, _-_, _≤_, _<_}
+use native.Mathlib.Nat.{le-trans, le-of-eq}
+use native.Mathlib.Omega.{arith}
+use Rattle.lists.proofs.Choice.{below-yes}
+use Rattle.line.specs.Line.{lineFrom}
+use Rattle.line.specs.Cells.{leaving, bookOf}
+use Rattle.line.specs.Alike.{BooksAlike}
+use Rattle.line.specs.Ranges.{everyone}
+use Rattle.line.proofs.Sums.{sum-over, over-split, over-same}
+use Rattle.line.proofs.Passengers.{leaving-over, aboard-leaving}
+use Rattle.line.proofs.Totals.{range-of-line}
+use Rattle.sheet.specs.Numbers.{Numbers, Lists, numbersIn}
+use Rattle.sheet.specs.Pairs.{passengersOfPair}
+use Rattle.sheet.specs.Checks.{earliestOf}
+use Rattle.sheet.specs.Accepted.{Lengths, InRange}
+use Rattle.sheet.proofs.Lengths.{pairs-le}
+use Rattle.cells.specs.Sums.{leavingIn, boardedIn, aboardIn, SumsGiven}
+use Rattle.cells.specs.Book.{bookIn, BookGiven}
+use Rattle.prepare.specs.LineOf.{lineOf}
+use Rattle.prepare.specs.Prepared.{HoldsSums, TimingOf, SumsOf}
+use Rattle.prepare.specs.Preparing.{TrainGiven, pairIn, FieldsGiven}
+use Rattle.prepare.proofs.Lines.{line-in-range}
+
+-- ---- what the steps ask
+
+module _ (m T : ℕ) (L : Lists) (lengths : Lengths 64 2080 L) (range : InRange (numbersIn m T L)) where
+  pub train-given : (i : ℕ) → 1 ≤ i → i ≤ m → TrainGiven i (L .departures) (L .driving) (L .delays)
+  unfolding earliestOf
+  train-given i a b =
+      let few = range .trains-most in
+      record {
+        most = omega arith;
+        slack = record {
+          least = a;
+          room = omega (arith, lengths .departures);
+          feeder = omega (arith, lengths .driving);
+          enough = λ u. le-trans (le-of-eq (sym (below-yes _ _ u))) (range .train i a b .slack);
+        };
+        delay = omega (arith, lengths .delays);
+      }
+
+  pub fields-given : FieldsGiven m (L .passengers)
+  fields-given =
+      let few = range .trains-most in
+      record {
+        trains = few;
+        long = omega (arith, lengths .passengers, pairs-le m few);
+        most = range .passengers;
+      }
+
+-- the sums of the fields are those of the numbers
+pub sums-of-fields : (m T : ℕ) (L : Lists) (sums : List ℕ) → HoldsSums m (pairIn m (L .passengers)) sums
+    → SumsOf (numbersIn m T L) sums
+unfolding pairIn passengersOfPair
+sums-of-fields m T L sums H = H
+
+-- ---- what the lists are then
+
+module _ (N : Numbers) (range : InRange N) (timing sums : List ℕ) (times : TimingOf N timing)
+    (leavers : SumsOf N sums) where
+  leaving-same : (k l : ℕ) → 1 ≤ k → k ≤ l → l ≤ N .trains → leavingIn sums k l ≡ leaving (lineOf N) k l
+  unfolding leaving lineOf lineFrom
+  leaving-same = leavers .leaving
+
+  boarded-le : (k : ℕ) → 1 ≤ k → k ≤ N .trains → boardedIn (N .trains) sums k k ≤ everyone
+  unfolding boardedIn lineOf lineFrom
+  boarded-le k a b =
+      le-trans
+      (le-of-eq
+      (sum-over (leavingIn sums k) k (N .trains)
+      ∙ over-same k (N .trains + 1) _ _ (λ t u v. leaving-same k t a u (omega arith))
+      ∙ sym (sum-over (leaving (lineOf N) k) k (N .trains))))
+      (range-of-line (lineOf N) (line-in-range N range) .leaving k a b)
+
+  sums-given : SumsGiven (N .trains) sums
+  sums-given =
+      record {
+        trains = range .trains-most;
+        long = leavers .long;
+        most = boarded-le;
+        falls = λ k l t a b c d.
+            omega (
+              arith,
+              leaving-same k t a (omega arith) d,
+              leaving-same l t (omega arith) c d,
+              leaving-over (lineOf N) k t,
+              leaving-over (lineOf N) l t,
+              over-split k l (t + 1) (λ i. lineOf N .passengers i (t + 1)) b (omega arith),
+            );
+      }
+
+  aboard-same : (k l : ℕ) → 1 ≤ k → k < l → l ≤ N .trains
+      → aboardIn (N .trains) sums k l ≡ bookOf (lineOf N) .aboard k l
+  unfolding aboardIn lineOf lineFrom
+  aboard-same k l a b c =
+      sum-over (λ t. leavingIn sums k t - leavingIn sums l t) l (N .trains)
+      ∙ over-same l (N .trains + 1) _ _ (λ t u v.
+      ap₂ (λ (x y : ℕ). x - y) (leaving-same k t a (omega arith) (omega arith))
+      (leaving-same l t (omega arith) u (omega arith)))
+      ∙ sym (sum-over (λ t. leaving (lineOf N) k t - leaving (lineOf N) l t) l (N .trains))
+      ∙ sym (aboard-leaving (lineOf N) k l (omega arith) (omega arith))
+
+  pub book-given : BookGiven (N .trains) timing sums
+  book-given =
+      record {
+        some = range .trains-least;
+        times = record {
+          trains = range .trains-most;
+          long = times .long;
+          source = λ i a b. le-trans (le-of-eq (times .source i a b)) (range .train i a b .delay);
+          period = λ s a b. le-trans (le-of-eq (times .period s a b)) (range .period-most);
+        };
+        leavers = sums-given;
+      }
+
+  pub books-alike : BooksAlike 1 (bookIn (N .trains) timing sums) (bookOf (lineOf N))
+  unfolding lineOf lineFrom
+  books-alike =
+      record {
+        trains = refl;
+        running = record {
+          slack = times .slack;
+          arrive = λ i x a b. ap (λ (y : ℕ). x + y) (times .source i a b);
+        };
+        period = λ s a b. times .period s (omega arith) b;
+        leaving = leaving-same;
+        aboard = aboard-same;
+      }

@@ -1,0 +1,3 @@
+pub mod LineOf
+pub mod Prepared
+pub mod Preparing
