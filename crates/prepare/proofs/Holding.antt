@@ -17,7 +17,21 @@ use Rattle.cells.specs.Timing.{placeOfSlack, placeOfSource, placeOfPeriod, slac
 use Rattle.prepare.specs.Prepared.{HoldsTimes, HoldsSums, TimingOf, SumsOf}
 use Rattle.prepare.proofs.Lines.{passengers-same}
 
--- ---- one train more
+-- ---- trains one by one
+
+-- the times of so many trains are those of fewer
+pub times-fewer : {k m T : ℕ} {x : Times} {timing : List ℕ} → HoldsTimes m T x timing → k ≤ m → HoldsTimes k T x timing
+times-fewer H few =
+    record {
+      long = H .long;
+      slack = λ i a b. H .slack i a (omega arith);
+      source = λ i a b. H .source i a (omega arith);
+      period = λ i a b. H .period i a (omega arith);
+    }
+
+-- and so are their sums
+pub sums-fewer : {k m : ℕ} {n : ℕ → ℕ → ℕ} {sums : List ℕ} → HoldsSums m n sums → k ≤ m → HoldsSums k n sums
+sums-fewer H few = record { long = H .long; leaving = λ i l a b c. H .leaving i l a b (omega arith) }
 
 pub times-none : (T : ℕ) (x : Times) (timing : List ℕ) → length timing ≡ 192 → HoldsTimes 0 T x timing
 times-none T x timing long =
@@ -27,6 +41,9 @@ times-none T x timing long =
       source = λ i a b. absurd (omega arith);
       period = λ i a b. absurd (omega arith);
     }
+
+pub sums-none : (n : ℕ → ℕ → ℕ) (sums : List ℕ) → length sums ≡ 4096 → HoldsSums 0 n sums
+sums-none n sums long = record { long = long; leaving = λ k l a b c. absurd (omega arith) }
 
 -- slack, source delay and period of train i are stored, and those of the trains before it were there
 module _ (i T : ℕ) (x : Times) (timing : List ℕ) (minutes : ℕ) (least : 1 ≤ i) (most : i ≤ 64)
@@ -50,9 +67,9 @@ module _ (i T : ℕ) (x : Times) (timing : List ℕ) (minutes : ℕ) (least : 1 
   other p a b c =
       getD-set-other with-source _ p T 0 c ∙ getD-set-other with-slack _ p _ 0 b ∙ getD-set-other timing _ p minutes 0 a
 
-  pub times-next : HoldsTimes i T x with-period
+  all-stored : HoldsTimes i T x with-period
   unfolding slackIn sourceIn periodIn
-  times-next =
+  all-stored =
       record {
         long = simp length-set (H .long);
         slack = λ j a b. elim (same-or-not j i) [
@@ -76,6 +93,12 @@ module _ (i T : ℕ) (x : Times) (timing : List ℕ) (minutes : ℕ) (least : 1 
               ∙ H .period j a (omega arith)
         ];
       }
+
+  -- list after list; the train leaves station s
+  pub times-next : (s d : ℕ) (slacked sourced last : List ℕ) → s ≡ i → d ≡ x .delay i
+      → slacked ≡ set timing (placeOfSlack s) minutes → sourced ≡ set slacked (placeOfSource i) d
+      → last ≡ set sourced (placeOfPeriod s) T → HoldsTimes i T x last
+  times-next s d slacked sourced last station delay a b c = rw (c, b, a, station, delay) all-stored
 
 -- ---- one source delay replaced
 

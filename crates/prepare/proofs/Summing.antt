@@ -24,9 +24,6 @@ pub record ColumnTo (n : ℕ → ℕ → ℕ) (l : ℕ) (sums : List ℕ) (v k :
   pub small : v ≤ (l - k) * 10000
   pub summed : (i : ℕ) → k < i → i ≤ l → leavingIn sums i l ≡ sum (λ j. n j (l + 1)) from i to l
 
-pub sums-none : (n : ℕ → ℕ → ℕ) (sums : List ℕ) → length sums ≡ 4096 → HoldsSums 0 n sums
-sums-none n sums long = record { long = long; leaving = λ k l a b c. absurd (omega arith) }
-
 module _ (n : ℕ → ℕ → ℕ) (l : ℕ) (sums : List ℕ) where
   -- no station of train l is summed yet
   pub column-start : (k : ℕ) → k ≡ l → HoldsSums (l - 1) n sums → ColumnTo n l sums 0 k
