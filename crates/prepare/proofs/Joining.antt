@@ -1,12 +1,11 @@
 -- The lists that hold a line's times and sums are what cells are worked from: their numbers are in range, and the book
--- that they make is alike to that of the line. And what preparing them needs, of lists whose numbers are in range.
+-- that they make is alike to that of the line.
 -- Assumes nothing.
 use mathlib.Core.Path.{_≡_, refl, ap, ap₂, sym, _∙_}
 use mathlib.Core.List.{List}
 use Prim.Native.Nat.{ℕ, _+_, _-_, _≤_, _<_}
 use native.Mathlib.Nat.{le-trans, le-of-eq}
 use native.Mathlib.Omega.{arith}
-use Rattle.lists.proofs.Choice.{below-yes}
 use Rattle.line.specs.Line.{lineFrom}
 use Rattle.line.specs.Cells.{leaving, bookOf}
 use Rattle.line.specs.Alike.{BooksAlike}
@@ -14,52 +13,13 @@ use Rattle.line.specs.Ranges.{everyone}
 use Rattle.line.proofs.Sums.{sum-over, over-split, over-same}
 use Rattle.line.proofs.Passengers.{leaving-over, aboard-leaving}
 use Rattle.line.proofs.Totals.{range-of-line}
-use Rattle.sheet.specs.Numbers.{Numbers, Lists, numbersIn}
-use Rattle.sheet.specs.Pairs.{passengersOfPair}
-use Rattle.sheet.specs.Checks.{earliestOf}
-use Rattle.sheet.specs.Accepted.{Lengths, InRange}
-use Rattle.sheet.proofs.Lengths.{pairs-le}
+use Rattle.sheet.specs.Numbers.{Numbers}
+use Rattle.sheet.specs.Accepted.{InRange}
 use Rattle.cells.specs.Sums.{leavingIn, boardedIn, aboardIn, SumsGiven}
 use Rattle.cells.specs.Book.{bookIn, BookGiven}
 use Rattle.prepare.specs.LineOf.{lineOf}
-use Rattle.prepare.specs.Prepared.{HoldsSums, TimingOf, SumsOf}
-use Rattle.prepare.specs.Preparing.{TrainGiven, pairIn, FieldsGiven}
+use Rattle.prepare.specs.Prepared.{TimingOf, SumsOf}
 use Rattle.prepare.proofs.Lines.{line-in-range}
-
--- ---- what the steps ask
-
-module _ (m T : ℕ) (L : Lists) (lengths : Lengths 64 2080 L) (range : InRange (numbersIn m T L)) where
-  pub train-given : (i : ℕ) → 1 ≤ i → i ≤ m → TrainGiven i (L .departures) (L .driving) (L .delays)
-  unfolding earliestOf
-  train-given i a b =
-      let few = range .trains-most in
-      record {
-        most = omega arith;
-        slack = record {
-          least = a;
-          room = omega (arith, lengths .departures);
-          feeder = omega (arith, lengths .driving);
-          enough = λ u. le-trans (le-of-eq (sym (below-yes _ _ u))) (range .train i a b .slack);
-        };
-        delay = omega (arith, lengths .delays);
-      }
-
-  pub fields-given : FieldsGiven m (L .passengers)
-  fields-given =
-      let few = range .trains-most in
-      record {
-        trains = few;
-        long = omega (arith, lengths .passengers, pairs-le m few);
-        most = range .passengers;
-      }
-
--- the sums of the fields are those of the numbers
-pub sums-of-fields : (m T : ℕ) (L : Lists) (sums : List ℕ) → HoldsSums m (pairIn m (L .passengers)) sums
-    → SumsOf (numbersIn m T L) sums
-unfolding pairIn passengersOfPair
-sums-of-fields m T L sums H = H
-
--- ---- what the lists are then
 
 module _ (N : Numbers) (range : InRange N) (timing sums : List ℕ) (times : TimingOf N timing)
     (leavers : SumsOf N sums) where

@@ -4,15 +4,21 @@
 --   HoldsTimes m T x timing   the list holds the times x of m trains, as slack and source delay, and the period T
 --   HoldsSums m n sums        the list holds the sums of those who leave trains 1 to m, n being the passengers by pair
 --   TimingOf N timing, SumsOf N sums     so it is with the numbers N
---   Prepared s before after r            what preparing the sheet s leaves of the lent lists and answers
+--   Prepared s timing sums timing′ sums′ r   what preparing the sheet s answers, and leaves of the two lent lists
 -- Assumes nothing.
 use Prim.Native.Nat.{ℕ, _+_, _-_, _≤_}
 use mathlib.Core.Path.{_≡_}
 use mathlib.Core.List.{List}
 use lib.ListN.{length}
 use Rattle.line.specs.Sum.{sum_from_to_}
-use Rattle.sheet.specs.Numbers.{Times, Numbers}
+use Rattle.rail.specs.declared.Refusal.{Refusal}
+use Rattle.rail.specs.declared.Verdict.the-variants.{Fine, Refused}
+use Rattle.sheet.specs.Format.{trainsOf, periodOf}
+use Rattle.sheet.specs.Numbers.{Times, Numbers, numbersOf}
 use Rattle.sheet.specs.Pairs.{passengersOfPair}
+use Rattle.sheet.specs.Checks.{sheetVerdict}
+use Rattle.reader.specs.declared.Reading.{Reading}
+use Rattle.reader.specs.Reading.{readingOf}
 use Rattle.cells.specs.Timing.{slackIn, sourceIn, periodIn}
 use Rattle.cells.specs.Sums.{leavingIn}
 
@@ -33,3 +39,10 @@ TimingOf N timing = HoldsTimes (N .trains) (N .period) (N .times) timing
 
 abbrev pub SumsOf : Numbers → List ℕ → Type 0
 SumsOf N sums = HoldsSums (N .trains) (passengersOfPair N) sums
+
+-- the answer by all checks of the sheet; a refusal leaves the lists as they were
+pub record Prepared (s timing sums timing′ sums′ : List ℕ) (r : Reading) : Type 0 where
+  pub answer : r ≡ readingOf (sheetVerdict s) (trainsOf s) (periodOf s)
+  pub times : sheetVerdict s ≡ Fine → TimingOf (numbersOf s) timing′
+  pub leavers : sheetVerdict s ≡ Fine → SumsOf (numbersOf s) sums′
+  pub kept : (q : Refusal) → sheetVerdict s ≡ Refused q → (timing′ ≡ timing) × (sums′ ≡ sums)

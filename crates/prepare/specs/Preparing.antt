@@ -13,12 +13,12 @@ use Rattle.sheet.specs.Pairs.{fieldOfPair}
 
 -- train i departs when its feeder is planned to arrive or later; train 1 has none
 pub record SlackGiven (i : ℕ) (departures driving : List ℕ) : Type 0 where
-  pub least : 1 ≤ i
   pub room : i ≤ length departures
   pub feeder : i ≤ length driving
   pub enough : 2 ≤ i → nth departures (i - 1) + nth driving (i - 1) ≤ nth departures i
 
 pub record TrainGiven (i : ℕ) (departures driving delays : List ℕ) : Type 0 where
+  pub least : 1 ≤ i
   pub most : i ≤ 64
   pub slack : SlackGiven i departures driving
   pub delay : i ≤ length delays

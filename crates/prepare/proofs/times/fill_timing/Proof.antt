@@ -1,13 +1,14 @@
--- `fill_timing` meets its contract. Invariant: the times of the trains before i stand. Measure: the trains left.
+-- `times::fill_timing` meets its contract. Invariant: the times of the trains before i stand. Measure: the trains left.
 -- Assumes nothing.
 use borrow.Author.Needs.{needs}
 use Prim.Native.Nat.{_+_, _-_, _≤_}
 use native.Mathlib.Omega.{arith}
 use Rattle.sheet.specs.Numbers.{timesIn}
 use Rattle.prepare.specs.Prepared.{HoldsTimes}
+use Rattle.prepare.specs.Preparing.{TrainGiven}
 use Rattle.prepare.proofs.Holding.{times-none, times-fewer}
-use Rattle.prepare.proofs.fill_timing.Statement.{statement}
-use Rattle.prepare.proofs.fill_timing.Tie as tie
+use Rattle.prepare.proofs.times.fill_timing.Statement.{statement}
+use Rattle.prepare.proofs.times.fill_timing.Tie as tie
 
 abbrev Inv-loop : tie.InvT-loop
 Inv-loop timing₀ m period departures driving delays i₀ timing i =
@@ -21,10 +22,18 @@ loop-holds : tie.Need-loop-holds Inv-loop μ-loop
 loop-holds c = (search needs, search needs, times-none _ _ _ (search needs))
 
 -- each train can be taken
+given : (c : tie.In-loop Inv-loop μ-loop) →
+    let start = c .before .before .before .before .before .before .args in
+    TrainGiven (c .before .loop .i) (start .departures .now) (start .driving .now) (start .delays .now)
+given c =
+    c .before .before .before .before .before .before .pre .1 _ (c .before .loop .inv .0) (c .loop-test .taken)
+
 set-times-requires : tie.Need-set-times-requires Inv-loop μ-loop
-set-times-requires c κs =
-    let I = c .before .before .loop .inv in
-    (c .before .before .before .before .before .before .before .pre .2 _ (I .0) (c .before .loop-test .taken), I .2)
+set-times-requires c κs = (given (c .before), c .before .before .loop .inv .2)
+
+-- a train is at most 64
+add-i : tie.Need-add-i Inv-loop μ-loop
+add-i c = omega (arith, given (c .before .before .before .before) .most)
 
 -- one train more
 loop-again : tie.Need-loop-again Inv-loop μ-loop
@@ -42,7 +51,7 @@ fill-timing-spec =
     μ-loop
     loop-holds
     set-times-requires
-    (λ c. search needs)
+    add-i
     (λ c. search needs)
     loop-again
     (λ c. search needs)

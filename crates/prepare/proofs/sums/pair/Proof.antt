@@ -1,12 +1,12 @@
--- `pair` meets its contract: the pair has a field.
+-- `sums::pair` meets its contract: the pair has a field.
 -- Assumes nothing.
 use borrow.Author.Needs.{needs}
 use mathlib.Core.Path.{ap}
 use Prim.Native.Nat.{ℕ, _-_}
 use lib.ListN.{getD}
 use Rattle.prepare.specs.Preparing.{pairIn}
-use Rattle.prepare.proofs.pair.Statement.{statement}
-use Rattle.prepare.proofs.pair.Tie as tie
+use Rattle.prepare.proofs.sums.pair.Statement.{statement}
+use Rattle.prepare.proofs.sums.pair.Tie as tie
 
 -- the place before the field, and a field is at most 10,000
 returns : tie.Need-returns

@@ -1,4 +1,4 @@
--- `slack` meets its contract: of a train with a feeder the slack is 0 or more.
+-- `times::slack` meets its contract: of a train with a feeder the slack is 0 or more.
 -- Assumes nothing.
 use borrow.Author.Needs.{needs}
 use mathlib.Core.Path.{_≡_, refl}
@@ -7,8 +7,8 @@ use native.Mathlib.Omega.{arith}
 use lib.ListN.{getD}
 use Rattle.lists.specs.Run.{nth}
 use Rattle.lists.proofs.Held.{nth-index}
-use Rattle.prepare.proofs.slack.Statement.{statement}
-use Rattle.prepare.proofs.slack.Tie as tie
+use Rattle.prepare.proofs.times.slack.Statement.{statement}
+use Rattle.prepare.proofs.times.slack.Tie as tie
 
 abbrev start-of : tie.After-index2 → tie.Start
 start-of c = c .before .before .before .before .before .before .before .before

@@ -1,4 +1,4 @@
--- `sum_column` meets its contract. Invariant: the columns before stand, and the sums of the stations from k + 1 on.
+-- `sums::sum_column` meets its contract. Invariant: the columns before stand, and the sums of the stations from k + 1 on.
 -- Measure: k.
 -- Assumes nothing.
 use borrow.Author.Needs.{needs}
@@ -7,8 +7,8 @@ use Prim.Native.Nat.{_≤_}
 use native.Mathlib.Omega.{arith}
 use Rattle.prepare.specs.Preparing.{pairIn}
 use Rattle.prepare.proofs.Summing.{ColumnTo, column-start, column-next, column-end}
-use Rattle.prepare.proofs.sum_column.Statement.{statement}
-use Rattle.prepare.proofs.sum_column.Tie as tie
+use Rattle.prepare.proofs.sums.sum_column.Statement.{statement}
+use Rattle.prepare.proofs.sums.sum_column.Tie as tie
 
 abbrev Inv-loop : tie.InvT-loop
 Inv-loop sums₀ passengers m train to sum₀ k₀ sums sum k = ColumnTo (pairIn m passengers) (train .0) sums sum k

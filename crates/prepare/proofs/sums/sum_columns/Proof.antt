@@ -1,4 +1,4 @@
--- `sum_columns` meets its contract. Invariant: the columns before i are summed. Measure: the columns left.
+-- `sums::sum_columns` meets its contract. Invariant: the columns before i are summed. Measure: the columns left.
 -- Assumes nothing.
 use borrow.Author.Needs.{needs}
 use Prim.Native.Nat.{_+_, _-_, _≤_}
@@ -6,8 +6,8 @@ use native.Mathlib.Omega.{arith}
 use Rattle.prepare.specs.Prepared.{HoldsSums}
 use Rattle.prepare.specs.Preparing.{pairIn}
 use Rattle.prepare.proofs.Holding.{sums-none, sums-fewer}
-use Rattle.prepare.proofs.sum_columns.Statement.{statement}
-use Rattle.prepare.proofs.sum_columns.Tie as tie
+use Rattle.prepare.proofs.sums.sum_columns.Statement.{statement}
+use Rattle.prepare.proofs.sums.sum_columns.Tie as tie
 
 abbrev Inv-loop : tie.InvT-loop
 Inv-loop sums₀ passengers m i₀ sums i = (1 ≤ i) × (i ≤ m + 1) × HoldsSums (i - 1) (pairIn m passengers) sums

@@ -1,10 +1,10 @@
--- `set_times` meets its contract: three places are written, and no two of them are one.
+-- `times::set_times` meets its contract: three places are written, and no two of them are one.
 -- Assumes nothing.
 use borrow.Author.Needs.{needs}
 use Rattle.lists.proofs.Held.{nth-index}
 use Rattle.prepare.proofs.Holding.{times-next}
-use Rattle.prepare.proofs.set_times.Statement.{statement}
-use Rattle.prepare.proofs.set_times.Tie as tie
+use Rattle.prepare.proofs.times.set_times.Statement.{statement}
+use Rattle.prepare.proofs.times.set_times.Tie as tie
 
 abbrev sourced-of : tie.After-set-period → tie.After-set-source
 sourced-of c = c .before .before .before .before
@@ -22,7 +22,7 @@ returns c =
     let sourced = sourced-of last in
     let slacked = slacked-of sourced in
     let start = start-of slacked in
-    times-next _ _ _ _ _ (start .pre .0 .slack .least) (start .pre .0 .most) (start .pre .1) (slacked .before .slack .ensures)
+    times-next _ _ _ _ _ (start .pre .0 .least) (start .pre .0 .most) (start .pre .1) (slacked .before .slack .ensures)
     _ _ _ _ _ (slacked .before .before .before .leaves .ensures)
     (nth-index (start .args .delays .now) _ _ (sourced .before .before .index .ensures))
     (slacked .set-slack .ensures) (sourced .set-source .ensures) (last .set-period .ensures)

@@ -1,0 +1,96 @@
+-- From a sheet taken apart to its times and sums: what an accepted sheet left in the four lists is enough to fill them,
+-- and they then hold the sheet's own numbers.
+-- Assumes nothing.
+use mathlib.Core.Path.{_≡_, refl, sym, _∙_}
+use mathlib.Core.List.{List}
+use Prim.Native.Nat.{ℕ, _≤_}
+use native.Mathlib.Nat.{le-trans, le-of-eq}
+use native.Mathlib.Omega.{arith}
+use Rattle.lists.proofs.Choice.{below-yes}
+use Rattle.rail.specs.declared.Refusal.{Refusal}
+use Rattle.rail.specs.declared.Verdict.the-variants.{Fine}
+use Rattle.rail.proofs.Checks.{refused-not-fine}
+use Rattle.sheet.specs.Format.{trainsOf, periodOf}
+use Rattle.sheet.specs.Numbers.{Lists, numbersOf, numbersIn, timesIn}
+use Rattle.sheet.specs.Pairs.{passengersOfPair}
+use Rattle.sheet.specs.Checks.{earliestOf, sheetVerdict}
+use Rattle.sheet.specs.Accepted.{Lengths, InRange, SameNumbers}
+use Rattle.sheet.proofs.Lengths.{pairs-le}
+use Rattle.sheet.proofs.Facts.{accepted-of-fine}
+use Rattle.sheet.proofs.Meaning.{in-range-same}
+use Rattle.reader.specs.declared.Reading.{Reading}
+use Rattle.reader.specs.declared.Reading.the-variants.{Accepted, Refused as ReadRefused}
+use Rattle.reader.specs.Reading.{readingOf}
+use Rattle.reader.specs.Decoded.{Decoded}
+use Rattle.reader.proofs.ReadingOf.{accepted-fine, refused-verdict}
+use Rattle.reader.proofs.Decoded.{decoded-lengths, decoded-numbers}
+use Rattle.prepare.specs.Prepared.{HoldsTimes, HoldsSums, Prepared}
+use Rattle.prepare.specs.Preparing.{TrainGiven, pairIn, FieldsGiven}
+use Rattle.prepare.proofs.Holding.{timing-of-same, sums-of-same}
+
+module _ (s : List ℕ) (before after : Lists) (a : Reading) (decoded : Decoded s before after a)
+    (long : Lengths 64 2080 before) (m T : ℕ) (accepted : a ≡ Accepted m T) where
+  passed : (sheetVerdict s ≡ Fine) × (m ≡ trainsOf s) × (T ≡ periodOf s)
+  passed = accepted-fine _ _ _ (sym accepted ∙ decoded .answer)
+
+  same : SameNumbers (numbersIn m T after) (numbersOf s)
+  same = decoded-numbers s before after a decoded m T (passed .1) (passed .2) (passed .0)
+
+  lengths : Lengths 64 2080 after
+  lengths = decoded-lengths s before after a decoded long
+
+  range : InRange (numbersIn m T after)
+  range = in-range-same _ (numbersOf s) same (accepted-of-fine s (passed .0) .numbers)
+
+  -- ---- what filling asks
+
+  -- no train departs before its feeder is planned to arrive
+  pub train-given : (i : ℕ) → 1 ≤ i → i ≤ m → TrainGiven i (after .departures) (after .driving) (after .delays)
+  unfolding earliestOf
+  train-given i a b =
+      let few = range .trains-most in
+      record {
+        least = a;
+        most = omega arith;
+        slack = record {
+          room = omega (arith, lengths .departures);
+          feeder = omega (arith, lengths .driving);
+          enough = λ u. le-trans (le-of-eq (sym (below-yes _ _ u))) (range .train i a b .slack);
+        };
+        delay = omega (arith, lengths .delays);
+      }
+
+  pub fields-given : FieldsGiven m (after .passengers)
+  fields-given =
+      let few = range .trains-most in
+      record {
+        trains = few;
+        long = omega (arith, lengths .passengers, pairs-le m few);
+        most = range .passengers;
+      }
+
+  -- ---- what is filled
+
+  pub prepared-accepted : (timing sums timing′ sums′ : List ℕ)
+      → HoldsTimes m T (timesIn (after .departures) (after .driving) (after .delays)) timing′
+      → HoldsSums m (pairIn m (after .passengers)) sums′ → Prepared s timing sums timing′ sums′ (Accepted m T)
+  unfolding pairIn passengersOfPair
+  prepared-accepted timing sums timing′ sums′ times leavers =
+      record {
+        answer = sym accepted ∙ decoded .answer;
+        times = λ _. timing-of-same _ _ same timing′ times;
+        leavers = λ _. sums-of-same _ _ same sums′ leavers;
+        kept = λ q refused. refused-not-fine (sym refused ∙ passed .0);
+      }
+
+-- nothing is filled
+pub prepared-refused : (s : List ℕ) (before after : Lists) (a : Reading) (r : Refusal) (timing sums : List ℕ)
+    → Decoded s before after a → a ≡ ReadRefused r → Prepared s timing sums timing sums a
+prepared-refused s before after a r timing sums decoded refused =
+    let why = refused-verdict (sheetVerdict s) _ _ (sym refused ∙ decoded .answer) in
+    record {
+      answer = decoded .answer;
+      times = λ fine. refused-not-fine (sym why ∙ fine);
+      leavers = λ fine. refused-not-fine (sym why ∙ fine);
+      kept = λ _ _. (refl, refl);
+    }
