@@ -1,14 +1,15 @@
 -- From a sheet taken apart to its times and sums: what an accepted sheet left in the four lists is enough to fill them,
 -- and they then hold the sheet's own numbers.
 -- Assumes nothing.
-use mathlib.Core.Path.{_≡_, refl, sym, _∙_}
+use mathlib.Core.Path.{_≡_, sym, _∙_}
 use mathlib.Core.List.{List}
 use Prim.Native.Nat.{ℕ, _≤_}
 use native.Mathlib.Nat.{le-trans, le-of-eq}
 use native.Mathlib.Omega.{arith}
 use Rattle.lists.proofs.Choice.{below-yes}
 use Rattle.rail.specs.declared.Refusal.{Refusal}
-use Rattle.rail.specs.declared.Verdict.the-variants.{Fine}
+use Rattle.rail.specs.declared.Verdict.{Verdict}
+use Rattle.rail.specs.declared.Verdict.the-variants.{Fine, Refused}
 use Rattle.rail.proofs.Checks.{refused-not-fine}
 use Rattle.sheet.specs.Format.{trainsOf, periodOf}
 use Rattle.sheet.specs.Numbers.{Lists, numbersOf, numbersIn, timesIn}
@@ -20,9 +21,8 @@ use Rattle.sheet.proofs.Facts.{accepted-of-fine}
 use Rattle.sheet.proofs.Meaning.{in-range-same}
 use Rattle.reader.specs.declared.Reading.{Reading}
 use Rattle.reader.specs.declared.Reading.the-variants.{Accepted, Refused as ReadRefused}
-use Rattle.reader.specs.Reading.{readingOf}
 use Rattle.reader.specs.Decoded.{Decoded}
-use Rattle.reader.proofs.ReadingOf.{accepted-fine, refused-verdict}
+use Rattle.reader.proofs.ReadingOf.{reading-refused, accepted-fine}
 use Rattle.reader.proofs.Decoded.{decoded-lengths, decoded-numbers}
 use Rattle.prepare.specs.Prepared.{HoldsTimes, HoldsSums, Prepared}
 use Rattle.prepare.specs.Preparing.{TrainGiven, pairIn, FieldsGiven}
@@ -71,26 +71,23 @@ module _ (s : List ℕ) (before after : Lists) (a : Reading) (decoded : Decoded 
 
   -- ---- what is filled
 
-  pub prepared-accepted : (timing sums timing′ sums′ : List ℕ)
-      → HoldsTimes m T (timesIn (after .departures) (after .driving) (after .delays)) timing′
-      → HoldsSums m (pairIn m (after .passengers)) sums′ → Prepared s timing sums timing′ sums′ (Accepted m T)
+  pub prepared-accepted : (timing sums : List ℕ)
+      → HoldsTimes m T (timesIn (after .departures) (after .driving) (after .delays)) timing
+      → HoldsSums m (pairIn m (after .passengers)) sums → Prepared (sheetVerdict s) s timing sums (Accepted m T)
   unfolding pairIn passengersOfPair
-  prepared-accepted timing sums timing′ sums′ times leavers =
+  prepared-accepted timing sums times leavers =
       record {
         answer = sym accepted ∙ decoded .answer;
-        times = λ _. timing-of-same _ _ same timing′ times;
-        leavers = λ _. sums-of-same _ _ same sums′ leavers;
-        kept = λ q refused. refused-not-fine (sym refused ∙ passed .0);
+        times = λ _. timing-of-same _ _ same timing times;
+        leavers = λ _. sums-of-same _ _ same sums leavers;
       }
 
--- nothing is filled
-pub prepared-refused : (s : List ℕ) (before after : Lists) (a : Reading) (r : Refusal) (timing sums : List ℕ)
-    → Decoded s before after a → a ≡ ReadRefused r → Prepared s timing sums timing sums a
-prepared-refused s before after a r timing sums decoded refused =
-    let why = refused-verdict (sheetVerdict s) _ _ (sym refused ∙ decoded .answer) in
+-- where the answer refuses, nothing is asked of the lists
+pub prepared-refused : (checks : Verdict) (s timing sums : List ℕ) (r : Refusal) → Refused r ≡ checks
+    → Prepared checks s timing sums (ReadRefused r)
+prepared-refused checks s timing sums r e =
     record {
-      answer = decoded .answer;
-      times = λ fine. refused-not-fine (sym why ∙ fine);
-      leavers = λ fine. refused-not-fine (sym why ∙ fine);
-      kept = λ _ _. (refl, refl);
+      answer = reading-refused _ _ _ e;
+      times = λ fine. refused-not-fine (e ∙ fine);
+      leavers = λ fine. refused-not-fine (e ∙ fine);
     }

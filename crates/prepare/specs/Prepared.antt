@@ -11,12 +11,11 @@ use mathlib.Core.Path.{_≡_}
 use mathlib.Core.List.{List}
 use lib.ListN.{length}
 use Rattle.line.specs.Sum.{sum_from_to_}
-use Rattle.rail.specs.declared.Refusal.{Refusal}
-use Rattle.rail.specs.declared.Verdict.the-variants.{Fine, Refused}
+use Rattle.rail.specs.declared.Verdict.{Verdict}
+use Rattle.rail.specs.declared.Verdict.the-variants.{Fine}
 use Rattle.sheet.specs.Format.{trainsOf, periodOf}
 use Rattle.sheet.specs.Numbers.{Times, Numbers, numbersOf}
 use Rattle.sheet.specs.Pairs.{passengersOfPair}
-use Rattle.sheet.specs.Checks.{sheetVerdict}
 use Rattle.reader.specs.declared.Reading.{Reading}
 use Rattle.reader.specs.Reading.{readingOf}
 use Rattle.cells.specs.Timing.{slackIn, sourceIn, periodIn}
@@ -40,9 +39,8 @@ TimingOf N timing = HoldsTimes (N .trains) (N .period) (N .times) timing
 abbrev pub SumsOf : Numbers → List ℕ → Type 0
 SumsOf N sums = HoldsSums (N .trains) (passengersOfPair N) sums
 
--- the answer by all checks of the sheet; a refusal leaves the lists as they were
-pub record Prepared (s timing sums timing′ sums′ : List ℕ) (r : Reading) : Type 0 where
-  pub answer : r ≡ readingOf (sheetVerdict s) (trainsOf s) (periodOf s)
-  pub times : sheetVerdict s ≡ Fine → TimingOf (numbersOf s) timing′
-  pub leavers : sheetVerdict s ≡ Fine → SumsOf (numbersOf s) sums′
-  pub kept : (q : Refusal) → sheetVerdict s ≡ Refused q → (timing′ ≡ timing) × (sums′ ≡ sums)
+-- the answer by the checks; where all pass, the lists hold the times and the sums of the sheet's numbers
+pub record Prepared (checks : Verdict) (s timing sums : List ℕ) (r : Reading) : Type 0 where
+  pub answer : r ≡ readingOf checks (trainsOf s) (periodOf s)
+  pub times : checks ≡ Fine → TimingOf (numbersOf s) timing
+  pub leavers : checks ≡ Fine → SumsOf (numbersOf s) sums

@@ -5,18 +5,18 @@ mod times;
 
 ghost use mathlib.Core.Path.{_≡_};
 ghost use lib.ListN.{length};
+ghost use Rattle.sheet.specs.Checks.{sheetVerdict};
 ghost use Rattle.prepare.specs.Prepared.{Prepared};
 use crate::sums::sum_columns;
 use crate::times::fill_timing;
 use reader::Reading;
 use reader::decoding::decode;
 
-// Takes the sheet apart and, if it is accepted, fills the list of times and that of sums. A refusal
-// leaves them as they were.
+// Takes the sheet apart and, if it is accepted, fills the list of times and that of sums.
 pub fn prepare(sheet: &[u8], timing: &mut [u32], sums: &mut [u32]) -> Reading
     requires { ⌜ (length (now timing) ≡ 192) × (length (now sums) ≡ 4096) ⌝ }
-    ensures { λ r. ⌜ Prepared (now (sheet .entry))
-        (now (timing .entry)) (now (sums .entry)) (now (timing .exit)) (now (sums .exit)) r ⌝ }
+    ensures { λ r. ⌜ Prepared (sheetVerdict (now (sheet .entry))) (now (sheet .entry))
+        (now (timing .exit)) (now (sums .exit)) r ⌝ }
 {
     let mut departures = [0u32; 64];
     let mut driving = [0u32; 64];

@@ -1,10 +1,12 @@
 -- `prepare` meets its contract: an accepted sheet fills both lists, a refused one none.
 -- Assumes nothing.
 use borrow.Author.Needs.{needs}
-use mathlib.Core.Path.{refl}
+use mathlib.Core.Path.{refl, sym, _∙_}
 use lib.ListN.{replicate}
 use Rattle.sheet.specs.Numbers.{lists}
+use Rattle.sheet.specs.Checks.{sheetVerdict}
 use Rattle.sheet.specs.Accepted.{Lengths}
+use Rattle.reader.proofs.ReadingOf.{refused-verdict}
 use Rattle.prepare.proofs.Outcome.{train-given, fields-given, prepared-accepted, prepared-refused}
 use Rattle.prepare.proofs.prepare.Statement.{statement}
 use Rattle.prepare.proofs.prepare.Tie as tie
@@ -40,14 +42,15 @@ returns : tie.Need-returns
 returns c =
     let timed = c .before .before .before .before .before .before .before in
     let answer = answer-of timed in
-    prepared-accepted _ _ _ _ (decoded-of answer .decode .ensures) zeros _ _ (answer .answer .given .1) _ _ _ _
+    prepared-accepted _ _ _ _ (decoded-of answer .decode .ensures) zeros _ _ (answer .answer .given .1) _ _
     (timed .fill-timing .ensures) (c .before .before .sum-columns .ensures)
 
--- nothing is
+-- the sheet is refused
 returns-2 : tie.Need-returns-2
 returns-2 c =
-    let decoded = c .before .before .before .before .before .before in
-    prepared-refused _ _ _ _ _ _ _ (decoded .decode .ensures) (c .enum-told .given .1)
+    let answer = c .before .before .before .before .before .before .decode .ensures .answer in
+    let refused = sym (refused-verdict (sheetVerdict _) _ _ (sym (c .enum-told .given .1) ∙ answer)) in
+    rw (c .enum-told .given .1) (prepared-refused _ _ _ _ _ refused)
 
 pub prepare-spec : {M : Type 1} → statement M
 prepare-spec =
