@@ -6,28 +6,28 @@ use mathlib.Core.Path.{_≡_, refl, ap, sym, _∙_}
 use mathlib.Core.List.{List, _++_}
 use mathlib.Core.Logic.{inl, inr}
 use Prim.Native.Nat.{ℕ, _+_, _-_, _*_, _≤_, _<_}
-use native.Mathlib.Nat.{le-refl, le-of-eq, eq-or-lt-of-le, mul-le-mul}
+use native.Mathlib.Nat.{le-refl, le-of-eq, eq-or-lt-of-le}
 use native.Mathlib.Omega.{arith}
-use lib.ListN.{length, getD, set, take, drop, length-set, List·getD-eq-default}
+use lib.ListN.{length, getD, set, take, drop, replicate, length-set, List·getD-eq-default}
 use Rattle.lists.specs.Run.{nth}
 use Rattle.lists.proofs.Order.{lt-or-ge, same-or-not}
 use Rattle.lists.proofs.Splice.{splice, length-splice, splice-before, splice-in, splice-after}
+use Rattle.lists.proofs.Fill.{zeros-at}
+use Rattle.lists.proofs.Held.{nth-set, nth-set-other}
 use Rattle.line.specs.Cells.{Table, Book, excessOn, keepCost, goCost, lesser, cellBy}
 use Rattle.line.specs.Ranges.{limit}
 use Rattle.line.proofs.Along.{excess-on-start}
 use Rattle.line.proofs.Alike.{cell-by-alike, books-alike-refl}
-use Rattle.line.proofs.Bounds.{arrival-on-le}
-use Rattle.cells.specs.Place.{place, tableOf, InRow, InUse, RowsWorked}
-use Rattle.cells.specs.Given.{aboardIn, bookIn, Given}
-use Rattle.rows.specs.Steps.{Keeps, Goes, Diagonal, ceiling, RowRoom, RowFilled, RowWorked}
+use Rattle.cells.specs.Place.{cellCount, place, tableOf, InRow, InUse, RowsWorked}
+use Rattle.cells.specs.Book.{bookIn, BookGiven}
+use Rattle.cells.specs.Costs.{CostsAlong}
 use Rattle.cells.proofs.Places.{place-row, place-after, row-fits, table-in, table-past}
-use Rattle.lists.proofs.Held.{nth-set, nth-set-other}
-use Rattle.cells.proofs.Leavers.{leaving-le, aboard-le}
-use Rattle.cells.proofs.Bounded.{running-in-range}
+use Rattle.cells.proofs.Along.{keep-le, go-le}
+use Rattle.rows.specs.Rows.{Diagonal, ceiling, RowRoom, RowFilled, RowWorked}
 
 -- ---- a row put back
 
-module _ (m k : ℕ) (cells row : List ℕ) (long : length cells ≡ 4096) (few : m ≤ 64) (pos : 1 ≤ k) (last : k ≤ m)
+module _ (m k : ℕ) (cells row : List ℕ) (long : length cells ≡ cellCount) (few : m ≤ 64) (pos : 1 ≤ k) (last : k ≤ m)
     (size : length row ≡ m + 1 - k) where
   abbrev put : List ℕ
   put = splice cells (place m k k) row
@@ -65,12 +65,11 @@ module _ (m k : ℕ) (cells row : List ℕ) (long : length cells ≡ 4096) (few 
 
 -- ---- one row
 
-module _ (m k : ℕ) (slack source period sums excess keep go diagonal part cells row : List ℕ)
-    (long : length cells ≡ 4096) (few : m ≤ 64) (pos : 1 ≤ k) (last : k ≤ m) (size : length row ≡ m + 1 - k)
-    (S : Keeps m k slack source sums excess keep) (G : Goes m k period sums go)
-    (F : RowFilled k excess keep go diagonal part row) where
+module _ (m k : ℕ) (timing sums costs diagonal part cells row : List ℕ) (long : length cells ≡ cellCount) (few : m ≤ 64)
+    (pos : 1 ≤ k) (last : k ≤ m) (size : length row ≡ m + 1 - k) (A : CostsAlong (bookIn m timing sums) k costs)
+    (F : RowFilled k costs diagonal part row) where
   abbrev book : Book
-  book = bookIn m slack source period sums
+  book = bookIn m timing sums
 
   abbrev after : List ℕ
   after = splice cells (place m k k) row
@@ -83,47 +82,38 @@ module _ (m k : ℕ) (slack source period sums excess keep go diagonal part cell
 
   -- a cell of the row by the cell after it
   row-cell : (l : ℕ) → k ≤ l → l ≤ m
-      → table k l ≡ lesser (excessOn (book .running) k l) (keepCost book table k l) (nth go l + nth diagonal l)
+      → table k l ≡ lesser (excessOn (book .running) k l) (keepCost book table k l)
+      (book .period l * book .aboard k l + nth diagonal l)
   unfolding keepCost
   row-cell l a b =
+      let C = A .each l a b in
       let at : k + (l - k) ≡ l = omega arith in
       let after : l - k + 1 ≡ l + 1 - k = omega arith in
       here l a (omega arith)
-      ∙ (rw (at, after, S .excesses l a b, S .kept l a b, sym (here (l + 1) (omega arith) (omega arith))) at
+      ∙ (rw (at, after, C .excess, C .keep, C .go, sym (here (l + 1) (omega arith) (omega arith))) at
       (F .cells (l - k) (omega arith)))
-
-  -- where the run begins go is no choice
-  row-lesser : (l : ℕ) → k ≤ l → l ≤ m
-      → table k l ≡ lesser (excessOn (book .running) k l) (keepCost book table k l)
-      (nth period l * aboardIn m sums k l + nth diagonal l)
-  row-lesser l a b = elim (eq-or-lt-of-le a) [
-    | inl e ↦ row-cell l a b ∙ rw (excess-on-start (book .running) k l (le-of-eq (sym e))) refl
-    | inr u ↦ row-cell l a b ∙ rw (G .gone l u b) refl
-  ]
 
   first-is : getD after (place m k k) 0 ≡ table k k
   first-is = sym (table-in m after k k last)
 
-  first-most : table k k ≤ ceiling
-  first-most =
-      let none : k - k ≡ 0 = omega arith in
-      rw (here k (le-refl k) (omega arith), none) (F .most)
-
   row-worked : RowWorked book k diagonal cells after (getD after (place m k k) 0)
   row-worked =
+      let none : k - k ≡ 0 = omega arith in
       record {
         long = put-long m k cells row long few pos last size;
-        cells = row-lesser;
+        cells = row-cell;
         first = first-is;
-        most = rw first-is first-most;
+        most = rw (first-is, here k (le-refl k) (omega arith), none) (F .most);
         others = put-others m k cells row long few pos last size;
       }
 
-  -- as the part comes back, of which the length and the place are known by equations
-  pub row-put-back : (p n : ℕ) → p ≡ place m k k → n ≡ m + 1 - k
-      → RowWorked book k diagonal cells (take p cells ++ (row ++ drop n (drop p cells)))
-      (getD (take p cells ++ (row ++ drop n (drop p cells))) p 0)
-  row-put-back p n e f = rw (e, f ∙ sym size) row-worked
+  -- as the part from place p on comes back
+  pub row-put-back : (p : ℕ) → p ≡ place m k k →
+      let back = take p cells ++ (row ++ drop (p + (m + 1 - k) - p) (drop p cells)) in
+      RowWorked book k diagonal cells back (getD back p 0)
+  row-put-back p e =
+      let all : p + (m + 1 - k) - p ≡ length row = omega arith in
+      rw (all, e) row-worked
 
 -- ---- rows from t down
 
@@ -139,7 +129,8 @@ pub record WorkedTo (B : Book) (t : ℕ) (before cells diagonal : List ℕ) (i :
       → tableOf (B .trains) cells k l ≡ tableOf (B .trains) before k l
   pub others : (p : ℕ) → ¬ (InUse (B .trains) t p) → getD cells p 0 ≡ getD before p 0
 
-pub worked-start : (B : Book) (t : ℕ) (cells diagonal : List ℕ) → Diagonal (B .trains) t cells diagonal
+pub worked-start : (B : Book) (t : ℕ) (cells diagonal : List ℕ)
+    → Diagonal (B .trains) t cells (replicate 64 0) diagonal
     → ((l : ℕ) → t < l → l ≤ B .trains → tableOf (B .trains) cells l l ≤ limit) → WorkedTo B t cells cells diagonal t
 worked-start B t cells diagonal D later =
     record {
@@ -149,7 +140,7 @@ worked-start B t cells diagonal D later =
       ahead = D .held;
       small = λ l a b. elim (lt-or-ge t l) [
         | inl u ↦ omega (arith, D .held l u b, later l u b)
-        | inr u ↦ omega (arith, D .rest l a u)
+        | inr u ↦ omega (arith, D .rest l a u, zeros-at 64 (l - 1))
       ];
       anew = λ k l a b u v. absurd (omega arith);
       stand = λ k l a b u. refl;
@@ -233,28 +224,18 @@ worked-end B t before cells diagonal i W e =
 
 -- ---- a row can be added up
 
-pub row-room : (m k : ℕ) (slack source period sums excess keep go diagonal : List ℕ) → Given m slack source period sums
-    → 1 ≤ k → k ≤ m → Keeps m k slack source sums excess keep → Goes m k period sums go → length diagonal ≡ 64
-    → ((l : ℕ) → 1 ≤ l → l ≤ m → nth diagonal l ≤ ceiling) → RowRoom k (m + 1 - k) excess keep go diagonal
-row-room m k slack source period sums excess keep go diagonal given pos last S G long small =
+pub row-room : (m k : ℕ) (timing sums costs diagonal : List ℕ) → BookGiven m timing sums → 1 ≤ k → k ≤ m
+    → CostsAlong (bookIn m timing sums) k costs → length diagonal ≡ 64
+    → ((l : ℕ) → 1 ≤ l → l ≤ m → nth diagonal l ≤ ceiling) → RowRoom k (m + 1 - k) costs diagonal
+row-room m k timing sums costs diagonal given pos last A long small =
     record {
       first = pos;
-      last = omega (arith, given .run .trains);
-      long-excess = S .long-excess;
-      long-keep = S .long-keep;
-      long-go = G .long;
+      last = omega (arith, given .times .trains);
+      long-costs = A .long;
       long-diagonal = long;
-      keep-most = λ l a b. rw (S .kept l a (omega arith)) (mul-le-mul
-          (leaving-le m sums (given .leavers) k l pos a (omega arith))
-          (arrival-on-le m _ (running-in-range m slack source (given .run)) k l (omega arith)));
-      go-most = λ l a b. elim (eq-or-lt-of-le a) [
-        | inl e ↦ omega (arith, G .first, ap (λ (j : ℕ). nth go j) e)
-        | inr u ↦ omega (
-          arith,
-          G .gone l u (omega arith),
-          mul-le-mul (given .periods .most l (omega arith) (omega arith))
-              (aboard-le m sums (given .leavers) k l pos a (omega arith)),
-        )
-      ];
-      diagonal-most = λ l a b. small l (omega arith) (omega arith);
+      small = λ l a b. (
+        keep-le m k timing sums costs given pos A l a (omega arith),
+        go-le m k timing sums costs given pos A l a (omega arith),
+        small l (omega arith) (omega arith),
+      );
     }

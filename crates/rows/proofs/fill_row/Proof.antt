@@ -1,124 +1,79 @@
 -- `fill_row` meets its contract. Invariant: the cells from j on are filled. Measure: j.
 -- Assumes nothing.
 use borrow.Author.Needs.{needs}
-use mathlib.Core.Path.{_≡_, refl}
-use Prim.Native.Nat.{_+_, _-_, _≤_, _<_}
+use mathlib.Core.Path.{_≡_, refl, ap, _∙_}
+use Prim.Native.Nat.{ℕ, _+_, _-_, _≤_, _<_}
 use native.Mathlib.Omega.{arith}
 use lib.ListN.{length, getD}
+use Rattle.lists.specs.Run.{nth}
+use Rattle.lists.proofs.Held.{nth-index}
 use Rattle.line.specs.Ranges.{limit}
-use Rattle.rows.specs.Steps.{ceiling}
-use Rattle.rows.proofs.Filling.{FilledFrom, filled-start, filled-back, filled-end, room-at}
+use Rattle.line.specs.Cells.{lesser}
+use Rattle.cells.specs.Costs.{keepIn, goIn}
+use Rattle.rows.specs.Rows.{ceiling}
+use Rattle.rows.proofs.Filling.{FilledFrom, filled-start, filled-back, filled-end}
 use Rattle.rows.proofs.fill_row.Statement.{statement}
 use Rattle.rows.proofs.fill_row.Tie as tie
 
 abbrev Inv-loop : tie.InvT-loop
-Inv-loop row₀ excess keep go diagonal start next₀ j₀ row next j =
-    FilledFrom start (length row₀) excess keep go diagonal row next j
+Inv-loop row₀ first costs diagonal next₀ j₀ row next j = FilledFrom (first .0) (length row₀) costs diagonal row next j
 
 abbrev μ-loop : tie.MeasureT-loop
-μ-loop row₀ excess keep go diagonal start next₀ j₀ row next j = j
+μ-loop row₀ first costs diagonal next₀ j₀ row next j = j
 
-leaves-requires : tie.Need-leaves-requires Inv-loop μ-loop
-leaves-requires c κs = search needs
+abbrev start-of : tie.In-loop Inv-loop μ-loop → tie.Start Inv-loop μ-loop
+start-of c = c .before .before .before .before .before
 
-index-requires : tie.Need-index-requires Inv-loop μ-loop
-index-requires c κs = search needs
-
--- no cell is filled yet
-loop-holds : tie.Need-loop-holds Inv-loop μ-loop
-loop-holds c = filled-start _ _ _ _ _ _ _ refl
-
-sub-j : tie.Need-sub-j Inv-loop μ-loop
-sub-j c = search needs
-
-abbrev start-of : tie.At-loop Inv-loop μ-loop → tie.Start Inv-loop μ-loop
-start-of c = c .before .before .before .before .before .before .before .before
-
--- the row begins at the station that its train leaves
-here : (c : tie.At-loop Inv-loop μ-loop) → c .before .index .result ≡ start-of c .args .first .0 - 1
-here c = rw (c .before .before .leaves .ensures) at (c .before .index .ensures)
-
--- what this turn reads, which is small
-spot : (c : tie.In-loop Inv-loop μ-loop) →
-    let start = start-of (c .before) .args in
-    let k = c .before .before .index .result + (c .before .loop .j - 1) in
-    (k < 64) × (getD (start .keep .now) k 0 ≤ limit) × (getD (start .go .now) k 0 ≤ limit)
-    × (getD (start .diagonal .now) k 0 ≤ ceiling)
-spot c =
-    room-at _ _ _ _ _ _ (start-of (c .before) .pre) _ (here (c .before)) (c .before .loop .j - 1)
-    (omega (arith, c .before .loop .inv .most, c .loop-test .taken))
-
--- a row has at most 64 cells
-size : (c : tie.In-loop Inv-loop μ-loop) → length (start-of (c .before) .args .row .now) ≤ 64
-size c = omega (arith, start-of (c .before) .pre .first, start-of (c .before) .pre .last)
-
--- the place is one of 64
-add-k : tie.Need-add-k Inv-loop μ-loop
-add-k c = omega (arith, spot c .0)
-
-mul-lesser : tie.Need-mul-lesser Inv-loop μ-loop
-mul-lesser c = search needs
-
-shared-slice-read-lesser : tie.Need-shared-slice-read-lesser Inv-loop μ-loop
-shared-slice-read-lesser c = search needs
-
-mul-lesser-2 : tie.Need-mul-lesser-2 Inv-loop μ-loop
-mul-lesser-2 c = search needs
-
-shared-slice-read-lesser-2 : tie.Need-shared-slice-read-lesser-2 Inv-loop μ-loop
-shared-slice-read-lesser-2 c = search needs
+-- a row has at most 64 cells, and what this turn reads is small
+small : (c : tie.In-loop Inv-loop μ-loop) →
+    let start = start-of c .args in
+    let l = start .first .0 + (c .before .loop .j - 1) in
+    (length (start .row .now) ≤ 64) × (l ≤ 64) × (keepIn (start .costs .now) l ≤ limit)
+    × (goIn (start .costs .now) l ≤ limit) × (nth (start .diagonal .now) l ≤ ceiling)
+small c =
+    let room = start-of c .pre in
+    let few = room .last in
+    let pos = room .first in
+    let inside = c .before .loop .inv .most in
+    let read = room .small (start-of c .args .first .0 + (c .before .loop .j - 1)) (omega arith) (omega arith) in
+    (omega arith, omega arith, read .0, read .1, read .2)
 
 -- a row comes to at most 64 times the limit
-add-lesser : tie.Need-add-lesser Inv-loop μ-loop
-add-lesser c =
+add-keep : tie.Need-add-keep Inv-loop μ-loop
+add-keep c =
     let turn = c .before .before in
-    omega (arith, spot turn, turn .before .loop .inv .small, size turn)
+    omega (arith, small turn, turn .before .loop .inv .small)
 
-mul-lesser-3 : tie.Need-mul-lesser-3 Inv-loop μ-loop
-mul-lesser-3 c = search needs
-
-shared-slice-read-lesser-3 : tie.Need-shared-slice-read-lesser-3 Inv-loop μ-loop
-shared-slice-read-lesser-3 c = search needs
-
-mul-lesser-4 : tie.Need-mul-lesser-4 Inv-loop μ-loop
-mul-lesser-4 c = search needs
-
-shared-slice-read-lesser-4 : tie.Need-shared-slice-read-lesser-4 Inv-loop μ-loop
-shared-slice-read-lesser-4 c = search needs
+-- the diagonal at the station of the turn
+corner : (c : tie.After-index Inv-loop μ-loop) →
+    let turn = c .before .before .before .before in
+    let start = start-of turn .args in
+    getD (start .diagonal .now) (c .index .result) 0
+    ≡ nth (start .diagonal .now) (start .first .0 + (turn .before .loop .j - 1))
+corner c = nth-index (start-of (c .before .before .before .before) .args .diagonal .now) _ _ (c .index .ensures)
 
 -- a cost and a first cell fit
-add-lesser-2 : tie.Need-add-lesser-2 Inv-loop μ-loop
-add-lesser-2 c = omega (arith, spot (c .before .before .before .before))
-
-lesser-requires : tie.Need-lesser-requires Inv-loop μ-loop
-lesser-requires c κs = search needs
-
-mul-row : tie.Need-mul-row Inv-loop μ-loop
-mul-row c = search needs
-
-slice-write-row : tie.Need-slice-write-row Inv-loop μ-loop
-slice-write-row c = search needs
-
-loop-less : tie.Need-loop-less Inv-loop μ-loop
-loop-less c = search needs
+add-go : tie.Need-add-go Inv-loop μ-loop
+add-go c =
+    let e = corner (c .before) in
+    omega (arith, small (c .before .before .before .before .before))
 
 -- one cell more
 loop-again : tie.Need-loop-again Inv-loop μ-loop
 loop-again c =
-    let turn = c .before .before .before .before .before in
-    filled-back _ _ _ _ _ _ _ _ _ _ (turn .before .loop .inv) (turn .loop-test .taken) (c .lesser .ensures .0)
-    (c .lesser .ensures .1) (spot turn .1)
-
--- the row keeps its length
-same-length : tie.Need-same-length Inv-loop μ-loop
-same-length c = c .before .loop .inv .long
+    let gone = c .before .before .before .before in
+    let kept = gone .before in
+    let turn = kept .before .before in
+    let corner = corner (c .before .before .before) in
+    filled-back _ _ _ _ _ _ _ _ (turn .before .loop .inv) (turn .loop-test .taken)
+    (rw (c .before .excess-on .ensures, kept .keep-on .ensures, gone .go-on .ensures, corner) at (c .lesser .ensures .0))
+    (omega (arith, c .lesser .ensures .1, kept .keep-on .ensures)) (small turn .2)
 
 -- no cell is left
 returns : tie.Need-returns Inv-loop μ-loop
 returns c =
-    let start = start-of (c .before) in
-    filled-end _ _ _ _ _ _ _ _ _ _ _ (start .pre .first) (here (c .before)) refl
-    (omega (arith, start .pre .first, start .pre .last)) (c .before .loop .inv) (omega arith)
+    let start = c .before .before .before .before .before .pre in
+    filled-end _ _ _ _ _ _ _ (omega (arith, start .first, start .last)) (c .before .loop .inv) (omega arith)
 
 pub fill-row-spec : {M : Type 1} → statement M
 fill-row-spec =
@@ -126,25 +81,22 @@ fill-row-spec =
     (tie.spec
     Inv-loop
     μ-loop
-    leaves-requires
-    index-requires
-    loop-holds
-    sub-j
-    add-k
-    mul-lesser
-    shared-slice-read-lesser
-    mul-lesser-2
-    shared-slice-read-lesser-2
-    add-lesser
-    mul-lesser-3
-    shared-slice-read-lesser-3
-    mul-lesser-4
-    shared-slice-read-lesser-4
-    add-lesser-2
-    lesser-requires
-    mul-row
-    slice-write-row
-    loop-less
+    (λ c. filled-start _ _ _ _ _ refl)
+    (λ c. search needs)
+    (λ c. search needs)
+    (λ c. search needs)
+    (λ c κs. search needs)
+    add-keep
+    (λ c κs. search needs)
+    (λ c κs. search needs)
+    (λ c. search needs)
+    (λ c. search needs)
+    add-go
+    (λ c κs. search needs)
+    (λ c κs. search needs)
+    (λ c. search needs)
+    (λ c. search needs)
+    (λ c. search needs)
     loop-again
-    same-length
+    (λ c. search needs)
     returns)

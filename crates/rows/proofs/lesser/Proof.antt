@@ -7,9 +7,6 @@ use Rattle.line.proofs.Choices.{lesser-of-go-less, lesser-of-keep-le}
 use Rattle.rows.proofs.lesser.Statement.{statement}
 use Rattle.rows.proofs.lesser.Tie as tie
 
-returns : tie.Need-returns
-returns c = search needs
-
 -- go is less
 returns-2 : tie.Need-returns-2
 returns-2 c =
@@ -23,4 +20,4 @@ returns-3 c =
     (lesser-of-keep-le (start .keep) (start .go) (start .excess) (omega arith), le-refl _)
 
 pub lesser-spec : {M : Type 1} → statement M
-lesser-spec = tie.close (tie.spec returns returns-2 returns-3)
+lesser-spec = tie.close (tie.spec (λ c. search needs) returns-2 returns-3)

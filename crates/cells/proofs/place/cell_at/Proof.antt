@@ -1,4 +1,4 @@
--- `place::cell_at` meets its contract: a cell in use, or 0 past the last column.
+-- `place::cell_at` meets its contract: a cell in use, which stands within what is lent, or 0 past the last column.
 -- Assumes nothing.
 use borrow.Author.Needs.{needs}
 use mathlib.Core.Path.{sym, ap, _∙_}
@@ -6,14 +6,11 @@ use Prim.Native.Nat.{ℕ, _<_}
 use native.Mathlib.Omega.{arith}
 use lib.ListN.{getD}
 use Rattle.cells.proofs.Places.{place-lt, table-in, table-past}
+use Rattle.cells.specs.Place.{cellCount}
 use Rattle.cells.proofs.place.cell_at.Statement.{statement}
 use Rattle.cells.proofs.place.cell_at.Tie as tie
 
-place-requires : tie.Need-place-requires
-place-requires c κs = search needs
-
--- a cell in use stands within what is lent
-within : (c : tie.After-place) → c .place .result < 4096
+within : (c : tie.After-place) → c .place .result < cellCount
 within c =
     let start = c .before .before .before .before in
     rw (c .place .ensures)
@@ -25,16 +22,14 @@ mul-result c = omega (arith, within c)
 shared-slice-read-result : tie.Need-shared-slice-read-result
 shared-slice-read-result c = omega (arith, within (c .before), c .before .before .before .before .before .pre .3)
 
--- a cell in use
 returns : tie.Need-returns
 returns c =
     ap (λ (p : ℕ). getD (c .before .before .before .before .before .args .cells .now) p 0) (c .before .place .ensures)
     ∙ sym (table-in _ _ _ _ (c .before .before .if1 .taken))
 
--- past the last column
 returns-2 : tie.Need-returns-2
 returns-2 c = sym (table-past _ _ _ _ (c .if1 .left))
 
 pub cell-at-spec : {M : Type 1} → statement M
 cell-at-spec =
-    tie.close (tie.spec place-requires mul-result shared-slice-read-result returns returns-2)
+    tie.close (tie.spec (λ c κs. search needs) mul-result shared-slice-read-result returns returns-2)

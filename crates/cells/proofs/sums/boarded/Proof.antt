@@ -21,39 +21,29 @@ abbrev μ-loop : tie.MeasureT-loop
 loop-holds : tie.Need-loop-holds Inv-loop μ-loop
 loop-holds c = (omega (arith, c .before .pre .3), omega arith, sym (boarded-none _ _ _ _ (omega arith)))
 
-leaving-requires : tie.Need-leaving-requires Inv-loop μ-loop
-leaving-requires c κs = search needs
+abbrev loop-of : tie.After-leaving Inv-loop μ-loop → tie.At-loop Inv-loop μ-loop
+loop-of c = c .before .before .before
 
 -- with those who leave train t
 counted : (c : tie.After-leaving Inv-loop μ-loop) →
-    let start = c .before .before .before .before .before .args in
-    let n = boardedIn (start .m) (start .sums .now) (start .from .0) (c .before .before .before .loop .t) in
-    (c .before .before .before .loop .sum + c .leaving .result ≡ n) × (n ≤ everyone)
+    let start = loop-of c .before .before .args in
+    let n = boardedIn (start .m) (start .sums .now) (start .from .0) (loop-of c .loop .t) in
+    (loop-of c .loop .sum + c .leaving .result ≡ n) × (n ≤ everyone)
 counted c =
-    let start = c .before .before .before .before .before in
-    let at-loop = c .before .before .before .loop in
-    let m = start .args .m in
-    let sums = start .args .sums .now in
-    let k = start .args .from .0 in
-    let inside : k ≤ at-loop .t = omega (arith, start .pre .2) in (
-      omega (arith, c .leaving .ensures .0, at-loop .inv .2, boarded-first m sums k (at-loop .t) (at-loop .inv .1)),
-      boarded-le m sums (start .pre .0) k (at-loop .t) (start .pre .1) inside (at-loop .inv .1),
+    let start = loop-of c .before .before in
+    let at-loop = loop-of c .loop in
+    let first = boarded-first (start .args .m) (start .args .sums .now) (start .args .from .0) (at-loop .t) in (
+      omega (arith, c .leaving .ensures .0, at-loop .inv .2, first (at-loop .inv .1)),
+      boarded-le _ _ (start .pre .0) _ (at-loop .t) (start .pre .1) (omega (arith, start .pre .2)) (at-loop .inv .1),
     )
 
 add-sum : tie.Need-add-sum Inv-loop μ-loop
 add-sum c = omega (arith, counted c)
 
-sub-t : tie.Need-sub-t Inv-loop μ-loop
-sub-t c = search needs
-
-loop-less : tie.Need-loop-less Inv-loop μ-loop
-loop-less c = search needs
-
 -- one train more
 loop-again : tie.Need-loop-again Inv-loop μ-loop
 loop-again c =
-    let at-loop = c .before .before .before .loop in
-    let e : at-loop .t ≡ at-loop .t - 1 + 1 = omega arith in
+    let e : loop-of c .loop .t ≡ loop-of c .loop .t - 1 + 1 = omega arith in
     (omega arith, omega arith, counted c .0 ∙ ap (boardedIn _ _ _) e)
 
 -- no train is left
@@ -70,9 +60,9 @@ boarded-spec =
     Inv-loop
     μ-loop
     loop-holds
-    leaving-requires
+    (λ c κs. search needs)
     add-sum
-    sub-t
-    loop-less
+    (λ c. search needs)
+    (λ c. search needs)
     loop-again
     returns)
