@@ -1,12 +1,12 @@
 -- What a sheet taken apart leaves, for those who call `decode`; and that its promise leaves nothing open.
 -- Assumes nothing.
-use mathlib.Core.Path.{_≡_, refl, sym, subst, ap, _∙_}
+use mathlib.Core.Path.{_≡_, refl, sym, ap, _∙_}
 use mathlib.Core.List.{List}
 use mathlib.Core.Logic.{inl, inr}
 use Prim.Native.Nat.{ℕ}
 use native.Mathlib.Omega.{arith}
 use Rattle.rail.specs.declared.Refusal.{Refusal}
-use Rattle.rail.specs.declared.Verdict.the-variants.{Fine, Refused}
+use Rattle.rail.specs.declared.Verdict.the-variants.{Fine}
 use Rattle.rail.proofs.Checks.{fine-or-refused, refused-not-fine, then-stop, then-pass, then-fine}
 use Rattle.sheet.specs.Format.{trainsOf, periodOf, bytesOf}
 use Rattle.sheet.specs.Numbers.{Lists, numbersOf, numbersIn}

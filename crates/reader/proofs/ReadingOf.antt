@@ -1,6 +1,6 @@
 -- The answer of read and its verdict: each tells the other, and what the answer carries is what the verdict says.
 -- Assumes nothing.
-use mathlib.Core.Path.{_≡_, refl, ap, ap₂, _∙_}
+use mathlib.Core.Path.{_≡_, refl, ap, ap₂}
 use Prim.Native.Nat.{ℕ}
 use Rattle.lists.proofs.Order.{zero-not-one}
 use Rattle.rail.specs.declared.Refusal.{Refusal}

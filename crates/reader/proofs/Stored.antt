@@ -47,13 +47,13 @@ module _ (s : List ℕ) (before : Lists) (room : Lengths 64 2080 before) (got : 
   sheet-decides = then-pass _ _ _ (fine-of-lengths _ _ _ _ room) refl
 
   -- a sheet that is refused
-  pub refused-read : {r : Refusal} → a ≡ ReadRefused r → Read s before before a
-  refused-read p =
+  pub read-of-refused : {r : Refusal} → a ≡ ReadRefused r → Read s before before a
+  read-of-refused p =
       read-refused s before p (sym (refused-verdict (sheetVerdict s) _ _ (sym p ∙ h .answer)) ∙ sheet-decides)
 
   -- one that is accepted, copied into the lent lists
-  pub accepted-read : {m T : ℕ} (after : Lists) → a ≡ Accepted m T → after ≡ got → Read s before after a
-  accepted-read after p same =
+  pub read-of-accepted : {m T : ℕ} (after : Lists) → a ≡ Accepted m T → after ≡ got → Read s before after a
+  read-of-accepted after p same =
       let fine = accepted-fine (sheetVerdict s) _ _ (sym p ∙ h .answer) .0 in
       let e = sym fine ∙ sheet-decides in
       let columns = decoded-columns s zeros got a h fine in

@@ -24,7 +24,8 @@ module _ (s : List ℕ) (before : Lists) where
   -- accepted: fields first, the rest 0; m and T are returned. Refused: nothing changed
   pub record Read (after : Lists) (a : Reading) : Type 0 where
     pub answer : a ≡ readingOf readVerdict (trainsOf s) (periodOf s)
-    pub departures : after .departures ≡ ifFine readVerdict (padded 64 (trainsOf s) (departureOf s)) (before .departures)
+    pub departures : after .departures
+        ≡ ifFine readVerdict (padded 64 (trainsOf s) (departureOf s)) (before .departures)
     pub driving : after .driving ≡ ifFine readVerdict (padded 64 (trainsOf s) (drivingOf s)) (before .driving)
     pub delays : after .delays ≡ ifFine readVerdict (padded 64 (trainsOf s) (delayOf s)) (before .delays)
     pub passengers : after .passengers

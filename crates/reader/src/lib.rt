@@ -84,7 +84,13 @@ fn read_sheet(
     let mut new_driving = [0u32; 64];
     let mut new_delays = [0u32; 64];
     let mut new_passengers = [0u32; 2080];
-    let answer = decode(sheet, &mut new_departures, &mut new_driving, &mut new_delays, &mut new_passengers);
+    let answer = decode(
+        sheet,
+        &mut new_departures,
+        &mut new_driving,
+        &mut new_delays,
+        &mut new_passengers,
+    );
     if let Reading::Refused(_) = answer {
         return answer;
     }

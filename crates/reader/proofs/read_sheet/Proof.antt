@@ -2,7 +2,7 @@
 -- Assumes nothing.
 use borrow.Author.Needs.{needs}
 use Rattle.sheet.specs.Numbers.{lists}
-use Rattle.reader.proofs.Stored.{refused-read, accepted-read}
+use Rattle.reader.proofs.Stored.{read-of-refused, read-of-accepted}
 use Rattle.reader.proofs.read_sheet.Statement.{statement}
 use Rattle.reader.proofs.read_sheet.Tie as tie
 
@@ -26,7 +26,7 @@ entry-of c = c .before .before .before .before .before .before .before .before .
 returns : tie.Need-returns
 returns c =
     let decoded = c .before .before .before .before .before .before in
-    refused-read _ _ (entry-of decoded .pre) _ (decoded .decode .ensures) (c .enum-told .given .1)
+    read-of-refused _ _ (entry-of decoded .pre) _ (decoded .decode .ensures) (c .enum-told .given .1)
 
 -- the sheet is accepted
 returns-2 : tie.Need-returns-2
@@ -37,7 +37,7 @@ returns-2 c =
     let departures = departures-of driving in
     let told = told-of departures in
     let decoded = told .before .before .before .before .before .before in
-    accepted-read _ _ (entry-of decoded .pre) _ (decoded .decode .ensures) _ (told .enum-told2 .given .1)
+    read-of-accepted _ _ (entry-of decoded .pre) _ (decoded .decode .ensures) _ (told .enum-told2 .given .1)
     (λ i.
     lists (departures .copy-u32 .ensures i) (driving .copy-u322 .ensures i) (delays .copy-u323 .ensures i)
     (passengers .copy-u324 .ensures i))

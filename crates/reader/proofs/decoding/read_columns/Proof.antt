@@ -4,7 +4,6 @@ use borrow.Author.Needs.{needs}
 use mathlib.Core.Path.{_≡_, ap, _∙_}
 use mathlib.Core.List.{List}
 use Prim.Native.Nat.{ℕ}
-use native.Mathlib.Omega.{arith}
 use lib.Dec.{lit≤}
 use Rattle.lists.specs.Filled.{Filled}
 use Rattle.sheet.specs.declared.format.Column.{Column}
@@ -59,8 +58,8 @@ read-column-requires-4 c κs =
     (passenger-room _ _ (start .pre .0) _ (start .pre .1 .passengers))
 
 -- a list filled from a column that is c, with n places
-filled-column : (s : List ℕ) {old new : List ℕ} {n n′ : ℕ} {c c′ : Column} → n ≡ n′ → c ≡ c′ → Filled 0 (entry s c) n old new
-    → Filled 0 (entry s c′) n′ old new
+filled-column : (s : List ℕ) {old new : List ℕ} {n n′ : ℕ} {c c′ : Column} → n ≡ n′ → c ≡ c′
+    → Filled 0 (entry s c) n old new → Filled 0 (entry s c′) n′ old new
 filled-column s p q h = rw (p, q) at h
 
 -- column by column, what was read is what the sheet has
