@@ -5,7 +5,7 @@ use crate::lengths;
 use crate::marks;
 use crate::printed;
 use crate::shown;
-use planner::Answer;
+use rail::Answer;
 use rail::Train;
 use records::at_most;
 use records::source;

@@ -1,14 +1,14 @@
 // What plan or report answered and left, as it is printed behind the operation's name.
 ghost use Prim.Native.Nat.{_≤_};
 use crate::printed;
-use planner::Answer;
+use rail::Answer;
 use records::sums;
 
 // The three numbers of the answer.
 pub fn answer(a: Answer) {
     say::next(a.number() as u64);
     say::next(a.place() as u64);
-    say::next(a.total());
+    say::next(a.carries());
 }
 
 // The lists as sums.

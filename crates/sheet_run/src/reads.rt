@@ -1,7 +1,7 @@
 // Records of read.
 use crate::writes;
 use crate::writes::BEFORE;
-use decoder::Reading;
+use reader::Reading;
 use records::at_most;
 use records::source;
 use records::source::short;
@@ -47,7 +47,7 @@ fn write_back(
     );
     say::word(b"back");
     writes::show(w);
-    writes::left(&buffer, w.length());
+    writes::left(&buffer, w.carries() as usize);
 }
 
 // The passenger fields of `m` trains, of which read never answers more than 64.

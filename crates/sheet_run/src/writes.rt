@@ -1,19 +1,19 @@
 // Records of write.
+use rail::Answer;
 use records::at_most;
 use records::source::list;
 use records::source::number;
 use records::source::short;
 use records::sums;
-use writer::Writing;
 
 // What every byte of a buffer holds before write.
 pub const BEFORE: u8 = 165;
 
 // Number, place and length.
-pub fn show(w: Writing) {
+pub fn show(w: Answer) {
     say::next(w.number() as u64);
     say::next(w.place() as u64);
-    say::next(w.length() as u64);
+    say::next(w.carries());
 }
 
 // What write left: the sheet, and what stands behind it.
@@ -36,7 +36,7 @@ fn write_into(
     let w = writer::write(m, period, departures, driving, delays, passengers, buffer);
     say::word(b"write");
     show(w);
-    left(buffer, w.length());
+    left(buffer, w.carries() as usize);
 }
 
 // A buffer of `room` bytes.
