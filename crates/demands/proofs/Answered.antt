@@ -1,7 +1,7 @@
 -- Demand 1 of one call of an operation: what follows from an outcome of checks that begin with the lengths of the
 -- buffers, once for plan and report; and what an accepted plan and an accepted report leave.
 -- Assumes nothing.
-use mathlib.Core.Path.{_≡_, sym, ap, subst, _∙_}
+use mathlib.Core.Path.{_≡_, refl, sym, ap, subst, _∙_}
 use mathlib.Core.Bool.{true}
 use mathlib.Core.List.{List}
 use mathlib.Core.Logic.{inl, inr}
@@ -9,7 +9,6 @@ use Prim.Native.Nat.{ℕ, _≤_, zero-le}
 use native.Mathlib.Nat.{le-trans, le-of-eq, le-refl}
 use native.Mathlib.Omega.{arith}
 use lib.ListN.{length, getD, length-replicate}
-use Rattle.lists.proofs.Choice.{if-yes}
 use Rattle.lists.proofs.Run.{padded-length}
 use Rattle.rail.specs.declared.Refusal.{Refusal}
 use Rattle.rail.specs.declared.ListFault.the-variants.{BufferLength}
@@ -37,12 +36,12 @@ use Rattle.cells.proofs.Shown.{shown-length}
 use Rattle.planner.specs.ReportChecks.{Reportable}
 use Rattle.planner.proofs.Reportable.{own-no-train, own-too-late, own-over}
 use Rattle.prepare.specs.LineOf.{lineOf}
-use Rattle.planner.specs.Buffers.{Buffers, RightLengths}
+use Rattle.planner.specs.Buffers.{Buffers, RightLengths, Blanked}
 use Rattle.planner.specs.Settled.{Settled}
 use Rattle.prepare.proofs.Lines.{line-in-range}
-use Rattle.planner.proofs.Settles.{buffers-one}
+use Rattle.planner.proofs.Outcome.{outcome-number, outcome-place, refused-carries}
 use Rattle.rail.specs.declared.Answer.{Answer}
-use Rattle.rail.specs.Answer.{answerNumber, answerCarries}
+use Rattle.rail.specs.Answer.{answerNumber, answerPlace, answerCarries}
 use Rattle.planner.specs.Buffers.{buffersVerdict}
 use Rattle.planner.specs.Outcome.{Outcome}
 use Rattle.planner.specs.Plan.{planVerdict, Planned, Plan}
@@ -50,63 +49,60 @@ use Rattle.planner.specs.Report.{reportVerdict, Reported, Report}
 use Rattle.planner.proofs.Refusals.{right-of-fine, checks-right, checks-wrong, checks-fine, afterLengthsVerdict}
 use Rattle.planner.proofs.Refusals.{facts-of-fine, fine-of-facts, after-lengths-blanks, own-decides}
 use Rattle.demands.specs.Calling.{Right, operations}
-use Rattle.demands.specs.Answered.{SameLengths, Blanked, Carries, Answered, PlanAnswered, ReportAnswered}
+use Rattle.demands.specs.Answered.{SameLengths, Carries, Answered, PlanAnswered, ReportAnswered}
 
 -- an operation is lent nothing beside its buffers
 pub all-right : {b : Buffers} → RightLengths b → Right operations tt b
 all-right right = record { beside = tt; buffers = right }
 
 -- what an accepted call leaves: lengths as stated, nothing written but rows 1 to last, a total within the limit
-record Left (m last : ℕ) (before after : Buffers) (a : Answer) : Type 0 where
+record Left (m last : ℕ) (before after : Buffers) (n : ℕ) : Type 0 where
   lengths : RightLengths after
   others : (p : ℕ) → ¬ (InUse m last p) → getD (after .cells) p 0 ≡ getD (before .cells) p 0
-  most : answerCarries a ≤ limit
+  most : n ≤ limit
 
 -- ---- from the outcome
 
 -- the lengths, then the checks w
-module _ (w : Verdict) (Stored : Type 0) (before after : Buffers) (a : Answer)
+module _ (w : Verdict) (Stored : ℕ → Type 0) (before after : Buffers) (a : Answer)
     (h : Outcome (buffersVerdict before andThen w) Stored before after a) where
   abbrev checks : Verdict
   checks = buffersVerdict before andThen w
 
+  number : answerNumber a ≡ numberIn checks
+  number = outcome-number checks Stored before after a h
+
+  place : answerPlace a ≡ placeIn checks
+  place = outcome-place checks Stored before after a h
+
   -- accepted is the verdict of no check
   pub fine-of-zero : answerNumber a ≡ 0 → checks ≡ Fine
-  fine-of-zero e = zero-is-fine _ (sym (h .number) ∙ e)
+  fine-of-zero e = zero-is-fine _ (sym number ∙ e)
 
   pub zero-of-fine : checks ≡ Fine → answerNumber a ≡ 0
-  zero-of-fine fine = h .number ∙ ap numberIn fine
+  zero-of-fine fine = number ∙ ap numberIn fine
 
   refused-by : (r : Refusal) → checks ≡ Refused r → Carries operations r a
   refused-by r e =
       record {
-        number = h .number ∙ ap numberIn e;
-        place = h .place ∙ ap placeIn e;
-        total = ap answerCarries (h .refused r e .answer);
+        number = number ∙ ap numberIn e;
+        place = place ∙ ap placeIn e;
+        total = refused-carries checks Stored before after a h r e;
       }
 
   -- with buffers of other lengths it writes nothing
   nothing-written : checks ≡ Refused (OfList BufferLength) → after ≡ before
-  nothing-written e =
-      let left = h .refused (OfList BufferLength) e in
-      buffers-one after before (left .cells) (left .decisions) (left .delays)
+  nothing-written e = h .refused (OfList BufferLength) e .kept refl
 
   module _ (Passes : Type 0) (m last : ℕ) (passes : w ≡ Fine → Passes) (fine-of : Passes → w ≡ Fine)
       (blank : (r : Refusal) → w ≡ Refused r → blanksOf r ≡ true)
-      (left : RightLengths before → w ≡ Fine → Stored → Left m last before after a) where
-    left-when : checks ≡ Fine → Left m last before after a
+      (left : RightLengths before → w ≡ Fine → Stored (answerCarries a) → Left m last before after (answerCarries a)) where
+    left-when : checks ≡ Fine → Left m last before after (answerCarries a)
     left-when fine = let both = checks-fine before w fine in left (both .0) (both .1) (h .accepted fine)
 
     -- with buffers of the right lengths a refusal is one of w's, and such a one blanks
     blanked : RightLengths before → (r : Refusal) → checks ≡ Refused r → Blanked before after
-    blanked right r e =
-        let blanks = blank r (sym (checks-right before w right) ∙ e) in
-        let refused = h .refused r e in
-        record {
-          decisions = refused .decisions ∙ if-yes _ _ blanks;
-          delays = refused .delays ∙ if-yes _ _ blanks;
-          cells = refused .cells;
-        }
+    blanked right r e = h .refused r e .blanked (blank r (sym (checks-right before w right) ∙ e))
 
     right-after : RightLengths before → RightLengths after
     right-after right = elim (fine-or-refused checks) [
@@ -150,7 +146,7 @@ module _ (w : Verdict) (Stored : Type 0) (before after : Buffers) (a : Answer)
       | inl fine ↦ absurd (wrong (right-of-fine before fine))
       | inr (r, e) ↦
           let ten = checks-wrong before w r e in
-          (h .number ∙ ap numberIn ten, nothing-written ten)
+          (number ∙ ap numberIn ten, nothing-written ten)
     ]
 
     total-most : answerCarries a ≤ limit
@@ -166,7 +162,7 @@ module _ (w : Verdict) (Stored : Type 0) (before after : Buffers) (a : Answer)
           accepted-only = λ e.
               let both = checks-fine before w (fine-of-zero e) in
               (all-right (both .0), passes (both .1));
-          accepted-place = λ e. h .place ∙ ap placeIn (fine-of-zero e);
+          accepted-place = λ e. place ∙ ap placeIn (fine-of-zero e);
           refuses = λ fits. refused-by;
           blanks = λ right. blanks-when-refused (right .buffers);
           untouched = λ wrong. untouched-when-wrong (λ right. wrong (all-right right));
@@ -177,9 +173,9 @@ module _ (w : Verdict) (Stored : Type 0) (before after : Buffers) (a : Answer)
 
 -- ---- of a plan
 
-planned-left : (L : Line) (before after : Buffers) (a : Answer) → LineInRange L → RightLengths before
-    → Planned L before after a → Left (L .trains) (L .trains) before after a
-planned-left L before after a range right plan =
+planned-left : (L : Line) (before after : Buffers) (n : ℕ) → LineInRange L → RightLengths before
+    → Planned L before after n → Left (L .trains) (L .trains) before after n
+planned-left L before after n range right plan =
     record {
       lengths = record {
         cells = plan .cells .long ∙ right .cells;
@@ -187,7 +183,7 @@ planned-left L before after a range right plan =
         delays = ap length (plan .delays) ∙ padded-length 64 _ _;
       };
       others = plan .cells .others;
-      most = le-trans (le-of-eq (ap answerCarries (plan .answer))) (total-le L range (plan .policy));
+      most = le-trans (le-of-eq (plan .answer)) (total-le L range (plan .policy));
     }
 
 pub plan-answered : (s : List ℕ) (before after : Buffers) (a : Answer) → Plan s before after a
@@ -196,15 +192,14 @@ unfolding planVerdict lineOf lineFrom
 plan-answered s before after a h =
     answered (sheetVerdict s) _ before after a h (AcceptedSheet s) _ _ (accepted-of-fine s) (fine-of-accepted s)
     (sheet-refusal-blanks s)
-    (λ right fine. planned-left (lineOf (numbersOf s)) before after a
+    (λ right fine. planned-left (lineOf (numbersOf s)) before after _
     (line-in-range (numbersOf s) (accepted-of-fine s fine .numbers)) right)
 
 -- ---- of a report
 
-settled-left : (L : Line) (i : ℕ) (before after : Buffers) (a : Answer) → LineInRange L → 1 ≤ i → i ≤ L .trains
-    → RightLengths before → Settled (bookOf L) i before after (answerCarries a)
-    → Left (L .trains) i before after a
-settled-left L i before after a range least most right settled =
+settled-left : (L : Line) (i : ℕ) (before after : Buffers) (n : ℕ) → LineInRange L → 1 ≤ i → i ≤ L .trains
+    → RightLengths before → Settled (bookOf L) i before after n → Left (L .trains) i before after n
+settled-left L i before after n range least most right settled =
     record {
       lengths = record {
         cells = settled .cells .long ∙ right .cells;
@@ -219,14 +214,14 @@ settled-left L i before after a range least most right settled =
 
 module _ (s : List ℕ) (i v : ℕ) (before : Buffers) (t : List ℕ) (after : Buffers) (a : Answer) where
   reported-left : RightLengths before → AcceptedSheet s → Reportable (trainsOf s) i v (before .cells)
-      → Reported s i v before t after a → Left (trainsOf s) i before after a
+      → Reported s i v before t after (answerCarries a) → Left (trainsOf s) i before after (answerCarries a)
   unfolding lineOf lineFrom
   reported-left right ok report reported =
       let same = replaced-numbers s t i v ok (report .least) (report .most) (reported .sheet) in
       let range = replaced-accepted s t i v ok (report .least) (report .most) (reported .sheet) (report .delay)
       .numbers in
-      subst (λ (m : ℕ). Left m i before after a) (same .trains)
-      (settled-left (lineOf (numbersOf t)) i before after a (line-in-range (numbersOf t) range) (report .least)
+      subst (λ (m : ℕ). Left m i before after (answerCarries a)) (same .trains)
+      (settled-left (lineOf (numbersOf t)) i before after _ (line-in-range (numbersOf t) range) (report .least)
       (omega (arith, report .most, same .trains)) right (reported .settled))
 
   module _ (h : Report s i v before t after a) where

@@ -21,18 +21,17 @@ use Rattle.sheet.specs.Numbers.{numbersOf}
 use Rattle.sheet.specs.Checks.{sheetVerdict}
 use Rattle.demands.proofs.RoundTrip.{read-then-write, write-then-read, equal-fields}
 use Rattle.cells.proofs.Places.{table-in}
-use Rattle.cells.specs.Shown.{byteOf, shown}
+use Rattle.cells.specs.Shown.{byteOf, shown, policyIn}
 use Rattle.cells.proofs.Shown.{shown-same}
 use Rattle.prepare.specs.LineOf.{lineOf}
 use Rattle.planner.specs.Buffers.{Buffers}
-use Rattle.rail.specs.declared.Answer.{Answer}
-use Rattle.rail.specs.Answer.{answerCarries}
 use Rattle.planner.specs.Plan.{planVerdict, Planned}
 use Rattle.planner.proofs.Refusals.{accepted-of-plan}
 use Rattle.planner.proofs.Outcome.{plan-outcome-one, report-outcome-one}
 use Rattle.demands.specs.Calling.{operations}
 use Rattle.demands.specs.Answered.{Demand1}
-use Rattle.demands.specs.Least.{policyIn, LeastPlan, Demand2, OneMeaning}
+use Rattle.demands.specs.Least.{LeastPlan, Demand2}
+use Rattle.demands.specs.OneMeaning.{OneMeaning}
 use Rattle.demands.proofs.Answered.{fine-of-zero, plan-answered, report-answered}
 use Rattle.demands.proofs.Possible.{plan-possible, report-possible}
 
@@ -42,7 +41,7 @@ demand-1 =
       every-sheet = λ x. plan-possible;
       every-report = λ x. report-possible;
       one-plan = λ x. plan-outcome-one;
-      one-report = λ x. report-outcome-one;
+      one-report = λ x s i v before t t′ after after′. report-outcome-one s i v before t t′ after after′;
       of-plan = λ x. plan-answered;
       of-report = λ x. report-answered;
     }
@@ -61,7 +60,7 @@ shown-shows m bytes p few e i a b =
     let byte : nth bytes i ≡ byteOf (p i) = padded-nth bytes 64 m _ e few i (omega arith) b ∙ below-yes _ _ a in
     ap (λ (n : ℕ). ifSame n 1 Keep Go) byte ∙ byte-shows (p i)
 
-module _ (L : Line) (before after : Buffers) (a : Answer) (few : L .trains ≤ 64) (plan : Planned L before after a) where
+module _ (L : Line) (before after : Buffers) (n : ℕ) (few : L .trains ≤ 64) (plan : Planned L before after n) where
   abbrev shows : Policy
   shows = policyIn (after .decisions)
 
@@ -75,10 +74,10 @@ module _ (L : Line) (before after : Buffers) (a : Answer) (few : L .trains ≤ 6
   days : DaysAlike 1 (L .trains) (dayOf (L .running) (plan .policy)) (dayOf (L .running) shows)
   days = same-days L L (plan .policy) shows (lines-alike-refl 1 L) agrees
 
-  least-plan : LeastPlan L after (answerCarries a)
+  least-plan : LeastPlan L after n
   least-plan =
       record {
-        told = ap answerCarries (plan .answer) ∙ same-total L L (plan .policy) shows (lines-alike-refl 1 L) agrees;
+        told = plan .answer ∙ same-total L L (plan .policy) shows (lines-alike-refl 1 L) agrees;
         least = shows-plan .least;
         earliest = shows-plan .tie;
         decisions = plan .decisions ∙ shown-same (L .trains) (plan .policy) shows agrees;
@@ -95,7 +94,7 @@ demand-2 =
       accepted-plan-is-least = λ x s before after a h zero.
           let fine = fine-of-zero (sheetVerdict s) _ before after a h zero in
           let sheet = accepted-of-plan s before fine .1 in
-          least-plan (lineOf (numbersOf s)) before after a (sheet .numbers .trains-most) (h .accepted fine);
+          least-plan (lineOf (numbersOf s)) before after _ (sheet .numbers .trains-most) (h .accepted fine);
     }
 
 pub one-meaning : OneMeaning

@@ -1,3 +1,4 @@
+pub mod RoundTrip
 pub mod Answered
 pub mod Possible
 pub mod Demands

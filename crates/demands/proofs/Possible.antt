@@ -9,6 +9,7 @@ use native.Mathlib.Nat.{le-refl}
 use native.Mathlib.Omega.{arith}
 use lib.ListN.{length, getD, replicate, List·getD-eq-default}
 use Rattle.lists.specs.Choice.{if_then_else_}
+use Rattle.lists.proofs.Choice.{if-no}
 use Rattle.lists.specs.Run.{listed, padded}
 use Rattle.lists.proofs.Order.{lt-or-ge}
 use Rattle.lists.proofs.Run.{listed-length, listed-at}
@@ -27,20 +28,18 @@ use Rattle.sheet.specs.Numbers.{numbersOf}
 use Rattle.sheet.specs.Format.{trainsOf}
 use Rattle.sheet.specs.Accepted.{AcceptedSheet, DelayReplaced}
 use Rattle.sheet.proofs.Amend.{replaced-accepted}
-use Rattle.cells.specs.Place.{place, tableOf, InUse, RowsWorked}
+use Rattle.cells.specs.Place.{cellCount, place, tableOf, InUse, RowsWorked}
 use Rattle.cells.specs.Shown.{shown}
 use Rattle.cells.proofs.Places.{place-lt, place-one, in-use-or-not, table-in, table-past}
-use Rattle.amend.proofs.Amended.{delay-room}
 use Rattle.prepare.specs.LineOf.{lineOf}
-use Rattle.planner.specs.Buffers.{Buffers, buffers}
+use Rattle.planner.specs.Buffers.{Buffers, buffers, RefusedFor}
 use Rattle.planner.specs.Settled.{Settled}
 use Rattle.rail.specs.declared.Answer.the-variants.{Accepted, Refused as AnswerRefused}
-use Rattle.planner.specs.Buffers.{RefusedFor}
 use Rattle.planner.specs.Plan.{planVerdict}
 use Rattle.planner.specs.Report.{reportVerdict}
 use Rattle.planner.proofs.Refusals.{accepted-of-plan, accepted-of-report}
-use Rattle.planner.proofs.Taken.{settled-planned}
-use Rattle.planner.proofs.Outcome.{outcome-accepted, outcome-refused}
+use Rattle.planner.proofs.Replacing.{delay-room}
+use Rattle.planner.proofs.Outcome.{outcome-accepted, outcome-refused, settled-planned}
 use Rattle.demands.specs.Calling.{operations}
 use Rattle.demands.specs.Answered.{PlanPossible, ReportPossible}
 
@@ -59,17 +58,17 @@ module _ (B : Book) (few : B .trains ≤ 64) (t : ℕ) (old : List ℕ) where
   put p (inr n) = getD old p 0
 
   workedCells : List ℕ
-  workedCells = listed (λ p. put p (in-use-or-not m t p few)) 0 4096
+  workedCells = listed (λ p. put p (in-use-or-not m t p few)) 0 cellCount
 
-  cells-long : length workedCells ≡ 4096
+  cells-long : length workedCells ≡ cellCount
   unfolding workedCells
-  cells-long = listed-length _ 0 4096
+  cells-long = listed-length _ 0 cellCount
 
-  cell-there : (p : ℕ) → p < 4096 → getD workedCells p 0 ≡ put p (in-use-or-not m t p few)
+  cell-there : (p : ℕ) → p < cellCount → getD workedCells p 0 ≡ put p (in-use-or-not m t p few)
   unfolding workedCells
   cell-there p l =
       let e : 0 + p ≡ p = omega arith in
-      listed-at _ 0 0 4096 p l ∙ ap (λ (q : ℕ). put q (in-use-or-not m t q few)) e
+      listed-at _ 0 0 cellCount p l ∙ ap (λ (q : ℕ). put q (in-use-or-not m t q few)) e
 
   -- a cell of the line has the table's number, in a row that is worked and in one that stands
   put-used : (k l : ℕ) → 1 ≤ k → k ≤ l → l ≤ m → (x : InUse m t (place m k l) ⊎ ¬ (InUse m t (place m k l)))
@@ -99,8 +98,8 @@ module _ (B : Book) (few : B .trains ≤ 64) (t : ℕ) (old : List ℕ) where
   used k l a b c =
       table-in m workedCells k l c ∙ cell-there (place m k l) (place-lt m k l a b c few) ∙ put-used k l a b c _
 
-  others : length old ≡ 4096 → (p : ℕ) → ¬ (InUse m t p) → getD workedCells p 0 ≡ getD old p 0
-  others long p n = elim (lt-or-ge p 4096) [
+  others : length old ≡ cellCount → (p : ℕ) → ¬ (InUse m t p) → getD workedCells p 0 ≡ getD old p 0
+  others long p n = elim (lt-or-ge p cellCount) [
     | inl l ↦ cell-there p l ∙ put-unused p _ n
     | inr l ↦
         List·getD-eq-default workedCells 0 (omega (arith, cells-long))
@@ -128,7 +127,7 @@ module _ (B : Book) (few : B .trains ≤ 64) (t : ℕ) (old : List ℕ) where
         stand = λ k l a b c. used k l (omega arith) b c ∙ worked-exists B t (tableOf m old) .stand k l a b c;
       }
 
-  rows-worked : length old ≡ 4096 → RowsWorked B t old workedCells
+  rows-worked : length old ≡ cellCount → RowsWorked B t old workedCells
   rows-worked long = record { long = cells-long ∙ sym long; worked = table-worked; others = others long }
 
 -- ---- what is settled
@@ -138,7 +137,7 @@ record Settleable (B : Book) (t : ℕ) (before : Buffers) : Type 0 where
   total : ℕ
   settled : Settled B t before after total
 
-settleable : (B : Book) (t : ℕ) (before : Buffers) → B .trains ≤ 64 → length (before .cells) ≡ 4096
+settleable : (B : Book) (t : ℕ) (before : Buffers) → B .trains ≤ 64 → length (before .cells) ≡ cellCount
     → Settleable B t before
 settleable B t before few long =
     let cells = workedCells B few t (before .cells) in
@@ -156,13 +155,16 @@ settleable B t before few long =
 -- ---- what a refusal leaves
 
 blanksFor : Refusal → Buffers → Buffers
-blanksFor r b =
-    buffers (b .cells) (if blanksOf r then replicate 64 2 else b .decisions)
-    (if blanksOf r then replicate 64 0 else b .delays)
+blanksFor r b = if blanksOf r then buffers (b .cells) (replicate 64 2) (replicate 64 0) else b
 
-refuses : (r : Refusal) (before : Buffers) → RefusedFor r before (blanksFor r before) (AnswerRefused r)
+refuses : (r : Refusal) (before : Buffers) → RefusedFor r before (blanksFor r before)
 unfolding blanksFor
-refuses r before = record { answer = refl; decisions = refl; delays = refl; cells = refl }
+refuses r before =
+    record {
+      blanked = λ yes.
+          rw yes (record { decisions = refl; delays = refl; cells = refl });
+      kept = λ no. if-no _ _ no;
+    }
 
 -- ---- plan
 
@@ -176,14 +178,14 @@ plan-possible s before = elim (fine-or-refused (planVerdict s before)) [
       record {
         after = done .after;
         answer = Accepted (done .total);
-        plan = outcome-accepted _ _ before _ _ (sym fine) refl
+        plan = outcome-accepted _ _ before _ (sym fine)
             (settled-planned L _ before (done .after) (done .total) refl (done .settled));
       }
   | inr (r, e) ↦
       record {
         after = blanksFor r before;
         answer = AnswerRefused r;
-        plan = outcome-refused _ _ before _ _ r (sym e) (refuses r before);
+        plan = outcome-refused _ _ before _ r (sym e) (refuses r before);
       }
 ]
 
@@ -210,8 +212,7 @@ module _ (s : List ℕ) (bytes : Bytes s) (i v : ℕ) (before : Buffers) where
         after = done .after;
         answer = Accepted (done .total);
         report = record {
-          outcome = outcome-accepted _ _ before _ _ (sym fine) refl
-              (record { answer = refl; sheet = put; settled = done .settled });
+          outcome = outcome-accepted _ _ before _ (sym fine) (record { sheet = put; settled = done .settled });
           kept = λ r e. refused-not-fine (sym e ∙ fine);
         };
       }
@@ -225,7 +226,7 @@ module _ (s : List ℕ) (bytes : Bytes s) (i v : ℕ) (before : Buffers) where
           after = blanksFor r before;
           answer = AnswerRefused r;
           report = record {
-            outcome = outcome-refused _ _ before _ _ r (sym e) (refuses r before);
+            outcome = outcome-refused _ _ before _ r (sym e) (refuses r before);
             kept = λ q f. refl;
           };
         }

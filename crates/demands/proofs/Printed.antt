@@ -12,7 +12,9 @@ use Rattle.lists.specs.Run.{listed, padded, nth}
 use Rattle.lists.proofs.Choice.{below-yes, below-no}
 use Rattle.lists.proofs.Order.{lt-or-ge}
 use Rattle.lists.proofs.Run.{listed-each, listed-padded, padded-same}
+use Rattle.rail.specs.declared.Verdict.{Verdict}
 use Rattle.rail.specs.declared.Verdict.the-variants.{Fine}
+use Rattle.rail.specs.Answer.{answerCarries, answerOf}
 use Rattle.line.specs.Line.{Line, lineFrom}
 use Rattle.line.specs.Policy.{Decision, Keep, Policy, arrival, total}
 use Rattle.line.specs.Cells.{Table, bookOf, Worked}
@@ -96,9 +98,12 @@ module _ (s : List ℕ) (M : Line) (x : CaseAnswer) (fine : sheetVerdict s ≡ F
   abbrev q : Policy
   q = policyFrom (x .decisions)
 
-  plan : Planned L before after a
+  passed : planVerdict s before ≡ Fine
   unfolding planVerdict
-  plan = h .accepted (checks-right before (sheetVerdict s) right ∙ fine)
+  passed = checks-right before (sheetVerdict s) right ∙ fine
+
+  plan : Planned L before after (answerCarries a)
+  plan = h .accepted passed
 
   -- the plan is one, and it is printed
   agrees : (i : ℕ) → 2 ≤ i → i ≤ L .trains → plan .policy i ≡ q i
@@ -137,6 +142,6 @@ module _ (s : List ℕ) (M : Line) (x : CaseAnswer) (fine : sheetVerdict s ≡ F
   pub leaves : Leaves (M .trains) x after a
   leaves =
       record {
-        answer = plan .answer ∙ ap Accepted total-is;
+        answer = h .answer ∙ ap (λ (v : Verdict). answerOf v (answerCarries a)) passed ∙ ap Accepted (plan .answer ∙ total-is);
         held = record { decisions = decisions-are; delays = delays-are; cells = cells-are };
       }

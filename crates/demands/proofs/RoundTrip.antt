@@ -21,8 +21,9 @@ use Rattle.sheet.proofs.Meaning.{same-sym, in-range-same, sheet-of-one, sheet-o
 use Rattle.reader.specs.Reading.{readingOf}
 use Rattle.reader.specs.Read.{readVerdict, Read}
 use Rattle.reader.proofs.ReadingOf.{accepted-fine}
-use Rattle.writer.specs.Write.{Given, numbersGiven, writingOf, writeVerdict, Write, Accepts}
-use Rattle.writer.proofs.Outcome.{written-fine}
+use Rattle.writer.specs.Write.{Given, numbersGiven, writeVerdict, Write, Accepts}
+use Rattle.rail.specs.Answer.{answerOf}
+use Rattle.rail.proofs.Answers.{accepted-answer}
 use Rattle.writer.proofs.Facts.{accepts-of-fine, fine-of-accepts}
 use Rattle.rail.specs.declared.Verdict.{Verdict}
 use Rattle.bits.specs.Field.{Bytes}
@@ -115,13 +116,13 @@ module _ (s : List ℕ) (after : Lists) (g : Got s after (trainsOf s) (periodOf 
         filling = g .ok .filling;
       }
 
-  write-again : (buffer written : List ℕ) (w : Writing) → Bytes s → length buffer ≡ 3907 → Write again buffer written w
+  write-again : (buffer written : List ℕ) (w : Answer) → Bytes s → length buffer ≡ 3907 → Write again buffer written w
       → (w ≡ WriteAccepted (length s)) × (take (length s) written ≡ s)
   write-again buffer written w b e h =
       let long = g .ok .long in
       let fine : writeVerdict (length buffer) again ≡ Fine
       = ap (λ (n : ℕ). writeVerdict n again) e ∙ fine-of-accepts 3907 again again-accepts in (
-        h .answer ∙ ap (λ (v : Verdict). writingOf v (bytesOf (trainsOf s))) fine
+        h .answer ∙ ap (λ (v : Verdict). answerOf v (bytesOf (trainsOf s))) fine
             ∙ ap (λ (n : ℕ). WriteAccepted n) (sym long),
         ap (λ (n : ℕ). take n written) long ∙ sheet-of-one (numbersGiven again) _ s (h .sheet fine) (again-sheet b),
       )
@@ -192,7 +193,7 @@ module _ (G : Given) (s : List ℕ) (after : Lists) (accepts : Accepts 3907 G) (
 
 module _ (G : Given) (buffer written : List ℕ) (n : ℕ) (h : Write G buffer written (WriteAccepted n)) where
   told : (writeVerdict (length buffer) G ≡ Fine) × (n ≡ bytesOf (G .trains))
-  told = written-fine (writeVerdict (length buffer) G) _ (h .answer)
+  told = accepted-answer (writeVerdict (length buffer) G) _ (h .answer)
 
   written-accepts : Accepts 3907 G
   written-accepts = let accepts = accepts-of-fine _ G (told .0) in rw (accepts .room-is) at accepts

@@ -14,7 +14,7 @@ use Rattle.rail.specs.declared.Verdict.{Verdict}
 use Rattle.rail.specs.declared.Verdict.the-variants.{Fine, Refused}
 use Rattle.rail.specs.Verdict.{numberIn}
 use Rattle.rail.proofs.Checks.{refused-not-fine, fine-or-refused}
-use Rattle.rail.proofs.Refusing.{Only, only-below, only-then}
+use Rattle.rail.proofs.Refusing.{Only, only-of, only-then}
 use Rattle.line.specs.Line.{Line, lineFrom}
 use Rattle.line.specs.Cells.{Table, Book, bookOf, Worked}
 use Rattle.line.proofs.Alike.{books-of-lines}
@@ -29,23 +29,23 @@ use Rattle.sheet.proofs.Facts.{fine-of-accepted}
 use Rattle.sheet.proofs.Meaning.{same-sym}
 use Rattle.sheet.proofs.Amend.{replaced-numbers, replaced-accepted}
 use Rattle.cells.specs.Place.{tableOf, InUse}
-use Rattle.cells.specs.Given.{CellsInRange}
+use Rattle.cells.specs.Book.{CellsInRange}
 use Rattle.cells.proofs.Places.{table-in}
-use Rattle.planner.specs.ReportChecks.{ownVerdict, Reportable}
+use Rattle.planner.specs.ReportChecks.{reportChecks, ownVerdict, Reportable}
 use Rattle.planner.proofs.Reportable.{fine-of-later}
 use Rattle.prepare.specs.LineOf.{lineOf}
 use Rattle.planner.specs.Buffers.{Buffers, RightLengths}
 use Rattle.planner.specs.Settled.{Settled}
 use Rattle.prepare.proofs.Lines.{line-in-range, lines-after}
 use Rattle.rail.specs.declared.Answer.{Answer}
-use Rattle.rail.specs.Answer.{answerNumber, answerCarries}
+use Rattle.rail.specs.declared.Answer.the-variants.{Accepted}
+use Rattle.rail.specs.Answer.{answerNumber, answerCarries, answerOf}
 use Rattle.planner.specs.Outcome.{Outcome}
 use Rattle.planner.specs.Plan.{planVerdict, Planned, Plan}
 use Rattle.planner.specs.Report.{reportVerdict, Reported, Report}
 use Rattle.planner.proofs.Refusals.{buffers-refusal, checks-right, accepted-of-plan, afterLengthsVerdict, fine-of-facts}
 use Rattle.planner.proofs.Refusals.{accepted-of-report}
-use Rattle.planner.proofs.Taken.{settled-planned}
-use Rattle.planner.proofs.Outcome.{outcome-accepted, planned-same}
+use Rattle.planner.proofs.Outcome.{outcome-accepted, outcome-number, settled-planned, refused-cells, planned-same}
 use Rattle.demands.specs.Calling.{Right, operations}
 use Rattle.demands.specs.Runs.{InRun, planned, reported, refused-with-other-cells, refused-with-other-sheet}
 use Rattle.demands.specs.Runs.{refused-plan, Agrees, OfItself, ReportInRun, Begun, Demand3}
@@ -102,12 +102,13 @@ whole-settled B i before after n most settled worked =
 
 -- two plans of one line agree in all that is in use
 planned-agrees : (L : Line) (before after b b′ : Buffers) (a a′ : Answer) → answerNumber a′ ≡ 0
-    → Planned L before after a → Planned L b b′ a′ → Agrees operations (L .trains) after a b′ a′
+    → Planned L before after (answerCarries a) → Planned L b b′ (answerCarries a′)
+    → Agrees operations (L .trains) after a b′ a′
 planned-agrees L before after b b′ a a′ zero P Q =
-    let same = planned-same L before after b b′ a a′ P Q in
+    let same = planned-same L before after b b′ _ _ P Q in
     record {
       accepted = zero;
-      total = ap answerCarries (same .0);
+      total = same .0;
       decisions = same .1;
       delays = same .2;
       cells = λ k l u v w.
@@ -118,11 +119,11 @@ planned-agrees L before after b b′ a a′ zero P Q =
     }
 
 -- a refused call, with whatever checks, leaves the cells
-refused-cells : {checks : Verdict} {Stored : Type 0} {before after : Buffers} {a : Answer}
+cells-kept : {checks : Verdict} {Stored : ℕ → Type 0} {before after : Buffers} {a : Answer}
     → Outcome checks Stored before after a → ¬ (answerNumber a ≡ 0) → after .cells ≡ before .cells
-refused-cells {checks} h refused = elim (fine-or-refused checks) [
-  | inl fine ↦ absurd (refused (h .number ∙ ap numberIn fine))
-  | inr (r, e) ↦ h .refused r e .cells
+cells-kept {checks} h refused = elim (fine-or-refused checks) [
+  | inl fine ↦ absurd (refused (outcome-number _ _ _ _ _ h ∙ ap numberIn fine))
+  | inr (r, e) ↦ refused-cells r _ _ (h .refused r e)
 ]
 
 -- ---- one report
@@ -130,7 +131,7 @@ refused-cells {checks} h refused = elim (fine-or-refused checks) [
 module _ (s : List ℕ) (i v : ℕ) (before : Buffers) (standing : Standing s (before .cells)) where
   -- neither the sheet nor the later rows refuse
   refusals : (r : Refusal) → reportVerdict s i v before ≡ Refused r → OfItself i r
-  unfolding reportVerdict ownVerdict
+  unfolding reportVerdict ownVerdict reportChecks
   refusals =
       let P : Refusal → Type 0 = OfItself i in
       let silent : (w : Verdict) → w ≡ Fine → Only P w = λ w fine r e. refused-not-fine (sym e ∙ fine) in
@@ -138,10 +139,8 @@ module _ (s : List ℕ) (i v : ℕ) (before : Buffers) (standing : Standing s (b
       (λ k l x y z. within s (before .cells) standing k l (omega arith) y z) in
       only-then P _ _ (λ r e. inl (sym (buffers-refusal before r e)))
       (only-then P (sheetVerdict s) _ (silent _ (fine-of-accepted s (standing .ok)))
-      (only-then P _ _ (only-below P _ _ _ (inr (inl refl)))
-      (only-then P _ _ (only-below P _ _ _ (inr (inl refl)))
-      (only-then P _ _ (only-below P _ _ _ (inr (inr refl)))
-      (silent _ later)))))
+      (only-then P _ _ (only-of P _ (inr (inr (inl refl)), inr (inr (inl refl)), inr (inr (inr refl)), tt))
+      (silent _ later)))
 
 module _ (s : List ℕ) (i v : ℕ) (before : Buffers) (t : List ℕ) (after : Buffers) (a : Answer)
     (standing : Standing s (before .cells)) (h : Report s i v before t after a) where
@@ -170,7 +169,7 @@ module _ (s : List ℕ) (i v : ℕ) (before : Buffers) (t : List ℕ) (after : B
   refused-keeps : ¬ (answerNumber a ≡ 0) → (t ≡ s) × (after .cells ≡ before .cells)
   refused-keeps refused = elim (fine-or-refused (reportVerdict s i v before)) [
     | inl fine ↦ absurd (refused (zero fine))
-    | inr (r, e) ↦ (h .kept r e, h .outcome .refused r e .cells)
+    | inr (r, e) ↦ (h .kept r e, refused-cells r _ _ (h .outcome .refused r e))
   ]
 
   -- an accepted one
@@ -178,7 +177,7 @@ module _ (s : List ℕ) (i v : ℕ) (before : Buffers) (t : List ℕ) (after : B
     told : RightLengths before × AcceptedSheet s × Reportable (trainsOf s) i v (before .cells)
     told = accepted-of-report s i v before fine
 
-    done : Reported s i v before t after a
+    done : Reported s i v before t after (answerCarries a)
     done = h .outcome .accepted fine
 
     abbrev L : Line
@@ -200,25 +199,28 @@ module _ (s : List ℕ) (i v : ℕ) (before : Buffers) (t : List ℕ) (after : B
         reworked-is-worked i _ (bookOf L) _ _ _ (books-of-lines (i + 1) _ _ (lines-after _ _ i v same)) before-it
         (done .settled .cells .worked) old
 
-    is-planned : Planned L before after a
+    is-planned : Planned L before after (answerCarries a)
     unfolding lineOf lineFrom
     is-planned =
-        subst (Planned L before after) (sym (done .answer))
-        (settled-planned L (trainsOf t) before after (answerCarries a) refl
-        (whole-settled (bookOf L) i before after _ (omega (arith, trains, told .2 .most)) (done .settled) (whole _)))
+        settled-planned L (trainsOf t) before after (answerCarries a) refl
+        (whole-settled (bookOf L) i before after _ (omega (arith, trains, told .2 .most)) (done .settled) (whole _))
+
+    accepted : a ≡ Accepted (answerCarries a)
+    accepted = h .outcome .answer ∙ ap (λ (c : Verdict). answerOf c (answerCarries a)) fine
 
     is-plan : Plan t before after a
     unfolding planVerdict
     is-plan =
-        outcome-accepted _ _ before after a
-        (sym (checks-right before (sheetVerdict t) (told .0) ∙ fine-of-accepted t ok)) (done .answer) is-planned
+        subst (Plan t before after) (sym accepted)
+        (outcome-accepted _ _ before after
+        (sym (checks-right before (sheetVerdict t) (told .0) ∙ fine-of-accepted t ok)) is-planned)
 
     fresh : (b b′ : Buffers) (a′ : Answer) → RightLengths b → Plan t b b′ a′
         → Agrees operations (trainsOf t) after a b′ a′
     unfolding planVerdict lineOf lineFrom
     fresh b b′ a′ right plan =
         let fine′ = checks-right b (sheetVerdict t) right ∙ fine-of-accepted t ok in
-        planned-agrees L before after b b′ a a′ (plan .number ∙ ap numberIn fine′) is-planned (plan .accepted fine′)
+        planned-agrees L before after b b′ a a′ (outcome-number _ _ _ _ a′ plan ∙ ap numberIn fine′) is-planned (plan .accepted fine′)
 
     rows-only : (p : ℕ) → ¬ (InUse (trainsOf s) i p) → getD (after .cells) p 0 ≡ getD (before .cells) p 0
     unfolding lineOf lineFrom
@@ -231,7 +233,7 @@ module _ (s : List ℕ) (i v : ℕ) (before : Buffers) (t : List ℕ) (after : B
   stands : Standing t (after .cells)
   stands = elim (fine-or-refused (reportVerdict s i v before)) [
     | inl fine ↦ reported-stands fine
-    | inr (r, e) ↦ rw (h .kept r e, h .outcome .refused r e .cells) standing
+    | inr (r, e) ↦ rw (h .kept r e, refused-cells r _ _ (h .outcome .refused r e)) standing
   ]
 
   in-run : ReportInRun operations tt s i v before t after a
@@ -247,7 +249,7 @@ module _ (s : List ℕ) (i v : ℕ) (before : Buffers) (t : List ℕ) (after : B
         field = λ e. h .outcome .accepted (checked e) .sheet;
         rows = λ p unused. elim (fine-or-refused (reportVerdict s i v before)) [
           | inl fine ↦ rows-only fine p unused
-          | inr (r, e) ↦ ap (λ (c : List ℕ). getD c p 0) (h .outcome .refused r e .cells)
+          | inr (r, e) ↦ ap (λ (c : List ℕ). getD c p 0) (refused-cells r _ _ (h .outcome .refused r e))
         ];
         refused = refused-keeps;
         stands = stands .ok;
@@ -261,9 +263,9 @@ standing-in-run (reported x s i v before t after a run h) = stands s i v before 
 standing-in-run (refused-with-other-cells x s cells i v before t after a run h refused) =
     rw (report-answered s i v before t after a h .sheet refused) (standing-in-run run)
 standing-in-run (refused-with-other-sheet x s other i v before t after a run h refused) =
-    rw (refused-cells (h .outcome) refused) (standing-in-run run)
+    rw (cells-kept (h .outcome) refused) (standing-in-run run)
 standing-in-run (refused-plan x s other before after a run h refused) =
-    rw (refused-cells h refused) (standing-in-run run)
+    rw (cells-kept h refused) (standing-in-run run)
 
 -- plan accepts the sheet of a run, and a report in it is refused for itself alone
 pub run-accepted : {s cells : List ℕ} → InRun operations s cells → AcceptedSheet s

@@ -7,7 +7,7 @@ use Rattle.lists.specs.Choice.{ifBelow}
 use Rattle.lists.specs.Run.{runOf, listed}
 use Rattle.bits.specs.Field.{bitAt, fieldOf}
 use Rattle.rail.specs.declared.Verdict.the-variants.{Fine}
-use Rattle.rail.specs.Verdict.{refuse_when_below_, _andThen_, firstOf}
+use Rattle.rail.specs.Verdict.{verdictOf, _andThen_, firstOf}
 use Rattle.line.specs.Line.{lineFrom}
 use Rattle.line.specs.Alike.{LinesAlike}
 use Rattle.line.specs.Answers.{PlanAnswer}
@@ -16,8 +16,8 @@ use Rattle.line.proofs.Cases.{case-at}
 use Rattle.sheet.specs.Format.{entry, bitsOf, bytesOf, pairsOf}
 use Rattle.sheet.specs.Numbers.{numbersOf}
 use Rattle.sheet.specs.Pairs.{fieldsUpTo, fieldOfPair, passengersOfPair}
-use Rattle.sheet.specs.Checks.{rangesVerdict, earliestOf, trainVerdict, passengersVerdict, numbersVerdict}
-use Rattle.sheet.specs.Checks.{headVerdict, fillingVerdict, bodyVerdict, sheetVerdict}
+use Rattle.sheet.specs.Checks.{rangesVerdict, earliestOf, trainChecks, trainVerdict, passengersVerdict}
+use Rattle.sheet.specs.Checks.{numbersVerdict, headVerdict, fillingVerdict, bodyVerdict, sheetVerdict}
 use Rattle.sheet.specs.SheetA.{sheetA}
 use Rattle.sheet.proofs.Sample.{sheet-a-accepted}
 use Rattle.prepare.specs.LineOf.{lineOf}
@@ -27,13 +27,13 @@ use Rattle.demands.proofs.Printed.{pairRows, lines-same, leaves}
 -- ---- the sheets are accepted
 
 pub sheet-b-accepted : sheetVerdict sheetB ≡ Fine
-unfolding sheetVerdict headVerdict rangesVerdict bodyVerdict numbersVerdict trainVerdict earliestOf passengersVerdict
-    fillingVerdict refuse_when_below_ _andThen_ firstOf runOf ifBelow bitAt fieldOf entry bitsOf bytesOf pairsOf
+unfolding sheetVerdict headVerdict rangesVerdict bodyVerdict numbersVerdict trainVerdict trainChecks earliestOf
+    passengersVerdict fillingVerdict verdictOf _andThen_ firstOf runOf ifBelow bitAt fieldOf entry bitsOf bytesOf pairsOf
 sheet-b-accepted = refl
 
 sheet-b13-accepted : sheetVerdict sheetB13 ≡ Fine
-unfolding sheetVerdict headVerdict rangesVerdict bodyVerdict numbersVerdict trainVerdict earliestOf passengersVerdict
-    fillingVerdict refuse_when_below_ _andThen_ firstOf runOf ifBelow bitAt fieldOf entry bitsOf bytesOf pairsOf
+unfolding sheetVerdict headVerdict rangesVerdict bodyVerdict numbersVerdict trainVerdict trainChecks earliestOf
+    passengersVerdict fillingVerdict verdictOf _andThen_ firstOf runOf ifBelow bitAt fieldOf entry bitsOf bytesOf pairsOf
 sheet-b13-accepted = refl
 
 -- ---- and have the lines of their cases

@@ -2,14 +2,14 @@
 -- use, and nothing else of them is shown; a report's sheet and cells are determined, and the rest is read off them.
 -- Assumes nothing.
 use mathlib.Core.Path.{_≡_, refl, ap, sym, subst, _∙_}
-use mathlib.Core.Bool.{Bool, true, false, true≢false}
+use mathlib.Core.Bool.{false, true≢false}
 use mathlib.Core.List.{List}
 use mathlib.Core.Logic.{_⊎_, inl, inr}
 use Prim.Native.Nat.{ℕ, _≤_}
 use lib.ListN.{length, replicate}
 use Rattle.lists.specs.Choice.{if_then_else_}
 use Rattle.lists.specs.Run.{padded}
-use Rattle.lists.proofs.Choice.{if-yes, if-no}
+use Rattle.lists.proofs.Choice.{true-or-false, if-yes, if-no}
 use Rattle.lists.proofs.Run.{padded-same}
 use Rattle.bits.proofs.Puts.{put-unique}
 use Rattle.rail.specs.declared.Refusal.{Refusal}
@@ -112,6 +112,13 @@ refused-for r before after right decisions delays cells =
           buffers-one after before cells (decisions ∙ if-no _ _ not) (delays ∙ if-no _ _ not);
     }
 
+-- a refusal of any kind leaves the cells
+pub refused-cells : (r : Refusal) (before after : Buffers) → RefusedFor r before after → after .cells ≡ before .cells
+refused-cells r before after left = elim (true-or-false (blanksOf r)) [
+  | inl yes ↦ left .blanked yes .cells
+  | inr no ↦ ap (λ (b : Buffers). b .cells) (left .kept no)
+]
+
 -- ---- two outcomes that keep one promise are equal
 
 -- two plans of one line show the same, whatever cells they were lent
@@ -148,15 +155,14 @@ module _ (before after after′ : Buffers) where
       )
 
   refused-for-one : (r : Refusal) → RefusedFor r before after → RefusedFor r before after′ → after ≡ after′
-  refused-for-one r P Q = blanks-or-not (blanksOf r) refl
-    where
-      blanks-or-not : (b : Bool) → blanksOf r ≡ b → after ≡ after′
-      blanks-or-not true yes =
-          let p = P .blanked yes in
-          let q = Q .blanked yes in
-          buffers-one after after′ (p .cells ∙ sym (q .cells)) (p .decisions ∙ sym (q .decisions))
-          (p .delays ∙ sym (q .delays))
-      blanks-or-not false no = P .kept no ∙ sym (Q .kept no)
+  refused-for-one r P Q = elim (true-or-false (blanksOf r)) [
+    | inl yes ↦
+        let p = P .blanked yes in
+        let q = Q .blanked yes in
+        buffers-one after after′ (p .cells ∙ sym (q .cells)) (p .decisions ∙ sym (q .decisions))
+        (p .delays ∙ sym (q .delays))
+    | inr no ↦ P .kept no ∙ sym (Q .kept no)
+  ]
 
 -- answers by the same checks are equal if they carry the same
 answers-one : (checks : Verdict) (a a′ : Answer) → a ≡ answerOf checks (answerCarries a)
