@@ -38,22 +38,24 @@ read-refused s before p e =
 abbrev pub zeros : Lists
 zeros = lists (replicate 64 0) (replicate 64 0) (replicate 64 0) (replicate 2080 0)
 
--- ---- where the lent lists have their lengths, and the sheet was decoded into lists of zeros
+-- ---- where the lent lists have their lengths
 
-module _ (s : List ℕ) (before : Lists) (room : Lengths 64 2080 before) (got : Lists) {a : Reading}
-    (h : Decoded s zeros got a) where
+module _ (s : List ℕ) (before : Lists) (room : Lengths 64 2080 before) where
+  -- the sheet decides
   sheet-decides : sheetVerdict s ≡ readVerdict s before
   unfolding readVerdict
   sheet-decides = then-pass _ _ _ (fine-of-lengths _ _ _ _ room) refl
 
-  -- a sheet that is refused
-  pub read-of-refused : {r : Refusal} → a ≡ ReadRefused r → Read s before before a
-  read-of-refused p =
-      read-refused s before p (sym (refused-verdict (sheetVerdict s) _ _ (sym p ∙ h .answer)) ∙ sheet-decides)
+  -- it is refused
+  pub read-of-refused : {a : Reading} {r : Refusal} → a ≡ readingOf (sheetVerdict s) (trainsOf s) (periodOf s)
+      → a ≡ ReadRefused r → Read s before before a
+  read-of-refused e p =
+      read-refused s before p (sym (refused-verdict (sheetVerdict s) _ _ (sym p ∙ e)) ∙ sheet-decides)
 
-  -- one that is accepted, copied into the lent lists
-  pub read-of-accepted : {m T : ℕ} (after : Lists) → a ≡ Accepted m T → after ≡ got → Read s before after a
-  read-of-accepted after p same =
+  -- it is accepted, and what was decoded into lists of zeros is copied
+  pub read-of-accepted : {a : Reading} {m T : ℕ} (got after : Lists) → Decoded s zeros got a → a ≡ Accepted m T
+      → after ≡ got → Read s before after a
+  read-of-accepted {a} got after h p same =
       let fine = accepted-fine (sheetVerdict s) _ _ (sym p ∙ h .answer) .0 in
       let e = sym fine ∙ sheet-decides in
       let columns = decoded-columns s zeros got a h fine in

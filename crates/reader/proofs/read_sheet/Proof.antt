@@ -26,7 +26,7 @@ entry-of c = c .before .before .before .before .before .before .before .before .
 returns : tie.Need-returns
 returns c =
     let decoded = c .before .before .before .before .before .before in
-    read-of-refused _ _ (entry-of decoded .pre) _ (decoded .decode .ensures) (c .enum-told .given .1)
+    read-of-refused _ _ (entry-of decoded .pre) (decoded .decode .ensures .answer) (c .enum-told .given .1)
 
 -- the sheet is accepted
 returns-2 : tie.Need-returns-2
@@ -37,7 +37,7 @@ returns-2 c =
     let departures = departures-of driving in
     let told = told-of departures in
     let decoded = told .before .before .before .before .before .before in
-    read-of-accepted _ _ (entry-of decoded .pre) _ (decoded .decode .ensures) _ (told .enum-told2 .given .1)
+    read-of-accepted _ _ (entry-of decoded .pre) _ _ (decoded .decode .ensures) (told .enum-told2 .given .1)
     (λ i.
     lists (departures .copy-u32 .ensures i) (driving .copy-u322 .ensures i) (delays .copy-u323 .ensures i)
     (passengers .copy-u324 .ensures i))
