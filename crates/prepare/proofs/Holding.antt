@@ -1,9 +1,9 @@
 -- Lists that hold the times and the sums of a line: one train more, one source delay replaced, and the same numbers.
 -- Assumes nothing.
-use mathlib.Core.Path.{_≡_, refl, ap, sym, _∙_}
+use mathlib.Core.Path.{_≡_, refl, sym, _∙_}
 use mathlib.Core.List.{List}
 use mathlib.Core.Logic.{inl, inr}
-use Prim.Native.Nat.{ℕ, _+_, _-_, _≤_, _<_}
+use Prim.Native.Nat.{ℕ, _+_, _-_, _*_, _≤_}
 use native.Mathlib.Omega.{arith}
 use lib.ListN.{length, getD, set, length-set}
 use lib.Seq.{getD-set-same, getD-set-other}
@@ -19,7 +19,7 @@ use Rattle.prepare.proofs.Lines.{passengers-same}
 
 -- ---- trains one by one
 
--- the times of so many trains are those of fewer
+-- who holds the times of so many trains holds those of fewer
 pub times-fewer : {k m T : ℕ} {x : Times} {timing : List ℕ} → HoldsTimes m T x timing → k ≤ m → HoldsTimes k T x timing
 times-fewer H few =
     record {
@@ -29,10 +29,11 @@ times-fewer H few =
       period = λ i a b. H .period i a (omega arith);
     }
 
--- and so are their sums
+-- and so it is with their sums
 pub sums-fewer : {k m : ℕ} {n : ℕ → ℕ → ℕ} {sums : List ℕ} → HoldsSums m n sums → k ≤ m → HoldsSums k n sums
 sums-fewer H few = record { long = H .long; leaving = λ i l a b c. H .leaving i l a b (omega arith) }
 
+-- of no train nothing is asked but room
 pub times-none : (T : ℕ) (x : Times) (timing : List ℕ) → length timing ≡ 192 → HoldsTimes 0 T x timing
 times-none T x timing long =
     record {
@@ -42,6 +43,7 @@ times-none T x timing long =
       period = λ i a b. absurd (omega arith);
     }
 
+-- nor of its sums
 pub sums-none : (n : ℕ → ℕ → ℕ) (sums : List ℕ) → length sums ≡ 4096 → HoldsSums 0 n sums
 sums-none n sums long = record { long = long; leaving = λ k l a b c. absurd (omega arith) }
 
@@ -49,6 +51,7 @@ sums-none n sums long = record { long = long; leaving = λ k l a b c. absurd (om
 module _ (i T : ℕ) (x : Times) (timing : List ℕ) (minutes : ℕ) (least : 1 ≤ i) (most : i ≤ 64)
     (H : HoldsTimes (i - 1) T x timing)
     (taken : 2 ≤ i → minutes ≡ x .departure i - x .departure (i - 1) - x .driving (i - 1)) where
+  -- the list after one store, two and three
   abbrev with-slack : List ℕ
   with-slack = set timing (placeOfSlack i) minutes
 
@@ -58,50 +61,52 @@ module _ (i T : ℕ) (x : Times) (timing : List ℕ) (minutes : ℕ) (least : 1 
   abbrev with-period : List ℕ
   with-period = set with-source (placeOfPeriod i) T
 
-  long : length with-source ≡ 192
-  long = simp length-set (H .long)
+  -- one of the three columns, each of 64 places: train i has its number, and an earlier train's is as it was
+  column : (place f : ℕ → ℕ) (c first : ℕ) → ((j : ℕ) → place j ≡ 64 * c + (j - 1)) → 1 ≤ first
+      → (first ≤ i → getD with-period (place i) 0 ≡ f i)
+      → ((j : ℕ) → first ≤ j → j ≤ i - 1 → getD timing (place j) 0 ≡ f j)
+      → (j : ℕ) → first ≤ j → j ≤ i → getD with-period (place j) 0 ≡ f j
+  column place f c first stands pos here before j a b = elim (same-or-not j i) [
+    | inl same ↦ rw same (here (omega arith))
+    | inr not ↦
+        getD-set-other with-source _ (place j) T 0 (λ e. omega (arith, stands j))
+        ∙ getD-set-other with-slack _ (place j) _ 0 (λ e. omega (arith, stands j))
+        ∙ getD-set-other timing _ (place j) minutes 0 (λ e. omega (arith, stands j))
+        ∙ before j a (omega arith)
+  ]
 
-  -- what stands in another train's place is as it was
-  other : (p : ℕ) → ¬ (p ≡ placeOfSlack i) → ¬ (p ≡ placeOfSource i) → ¬ (p ≡ placeOfPeriod i)
-      → getD with-period p 0 ≡ getD timing p 0
-  other p a b c =
-      getD-set-other with-source _ p T 0 c ∙ getD-set-other with-slack _ p _ 0 b ∙ getD-set-other timing _ p minutes 0 a
-
-  all-stored : HoldsTimes i T x with-period
+  -- none of the three overwrites another
+  stored : HoldsTimes i T x with-period
   unfolding slackIn sourceIn periodIn
-  all-stored =
+  stored =
       record {
         long = simp length-set (H .long);
-        slack = λ j a b. elim (same-or-not j i) [
-          | inl same ↦ rw same (
-              getD-set-other with-source _ (placeOfSlack i) T 0 (λ e. omega arith)
-              ∙ getD-set-other with-slack _ (placeOfSlack i) _ 0 (λ e. omega arith)
-              ∙ getD-set-same timing (placeOfSlack i) minutes 0 (omega (arith, H .long)) ∙ taken (omega arith))
-          | inr not ↦ other _ (λ e. not (omega arith)) (λ e. omega arith) (λ e. omega arith)
-              ∙ H .slack j a (omega arith)
-        ];
-        source = λ j a b. elim (same-or-not j i) [
-          | inl same ↦ rw same (
-              getD-set-other with-source _ (placeOfSource i) T 0 (λ e. omega arith)
-              ∙ getD-set-same with-slack (placeOfSource i) _ 0 (simp length-set (omega (arith, H .long))))
-          | inr not ↦ other _ (λ e. omega arith) (λ e. not (omega arith)) (λ e. omega arith)
-              ∙ H .source j a (omega arith)
-        ];
-        period = λ j a b. elim (same-or-not j i) [
-          | inl same ↦ rw same (getD-set-same with-source (placeOfPeriod i) T 0 (omega (arith, long)))
-          | inr not ↦ other _ (λ e. omega arith) (λ e. omega arith) (λ e. not (omega arith))
-              ∙ H .period j a (omega arith)
-        ];
+        slack = column placeOfSlack (λ j. x .departure j - x .departure (j - 1) - x .driving (j - 1)) 0 2
+            (λ j. omega arith) (omega arith)
+            (λ two.
+            getD-set-other with-source _ (placeOfSlack i) T 0 (λ e. omega arith)
+            ∙ getD-set-other with-slack _ (placeOfSlack i) _ 0 (λ e. omega arith)
+            ∙ getD-set-same timing (placeOfSlack i) minutes 0 (omega (arith, H .long)) ∙ taken two)
+            (H .slack);
+        source = column placeOfSource (x .delay) 1 1 (λ j. omega arith) (omega arith)
+            (λ _.
+            getD-set-other with-source _ (placeOfSource i) T 0 (λ e. omega arith)
+            ∙ getD-set-same with-slack (placeOfSource i) _ 0 (simp length-set (omega (arith, H .long))))
+            (H .source);
+        period = column placeOfPeriod (λ _. T) 2 1 (λ j. omega arith) (omega arith)
+            (λ _. getD-set-same with-source (placeOfPeriod i) T 0 (simp length-set (omega (arith, H .long))))
+            (H .period);
       }
 
   -- list after list; the train leaves station s
   pub times-next : (s d : ℕ) (slacked sourced last : List ℕ) → s ≡ i → d ≡ x .delay i
       → slacked ≡ set timing (placeOfSlack s) minutes → sourced ≡ set slacked (placeOfSource i) d
       → last ≡ set sourced (placeOfPeriod s) T → HoldsTimes i T x last
-  times-next s d slacked sourced last station delay a b c = rw (c, b, a, station, delay) all-stored
+  times-next s d slacked sourced last station delay a b c = rw (c, b, a, station, delay) stored
 
 -- ---- one source delay replaced
 
+-- in its place in the list
 pub timing-with-delay : (N : Numbers) (i v : ℕ) (timing : List ℕ) → 1 ≤ i → i ≤ N .trains → N .trains ≤ 64
     → TimingOf N timing → TimingOf (withDelay N i v) (set timing (placeOfSource i) v)
 unfolding slackIn sourceIn periodIn
@@ -119,9 +124,15 @@ timing-with-delay N i v timing least most few H =
       period = λ j a b. getD-set-other timing _ (placeOfPeriod j) v 0 (λ e. omega arith) ∙ H .period j a b;
     }
 
+-- no sum counts a delay
+pub sums-with-delay : (N : Numbers) (i v : ℕ) (sums : List ℕ) → SumsOf N sums → SumsOf (withDelay N i v) sums
+unfolding passengersOfPair
+sums-with-delay N i v sums H = H
+
 -- ---- the same numbers
 
 module _ (N M : Numbers) (same : SameNumbers N M) where
+  -- have the same times
   pub timing-of-same : (timing : List ℕ) → TimingOf N timing → TimingOf M timing
   timing-of-same timing H =
       let m = same .trains in
@@ -138,6 +149,7 @@ module _ (N M : Numbers) (same : SameNumbers N M) where
         period = λ s a b. H .period s a (omega arith) ∙ same .period;
       }
 
+  -- and the same sums
   pub sums-of-same : (sums : List ℕ) → SumsOf N sums → SumsOf M sums
   sums-of-same sums H =
       let m = same .trains in

@@ -23,10 +23,12 @@ use Rattle.prepare.proofs.Lines.{line-in-range}
 
 module _ (N : Numbers) (range : InRange N) (timing sums : List ℕ) (times : TimingOf N timing)
     (leavers : SumsOf N sums) where
+  -- those who leave, by the line
   leaving-same : (k l : ℕ) → 1 ≤ k → k ≤ l → l ≤ N .trains → leavingIn sums k l ≡ leaving (lineOf N) k l
   unfolding leaving lineOf lineFrom
   leaving-same = leavers .leaving
 
+  -- all of them are at most everyone
   boarded-le : (k : ℕ) → 1 ≤ k → k ≤ N .trains → boardedIn (N .trains) sums k k ≤ everyone
   unfolding boardedIn lineOf lineFrom
   boarded-le k a b =
@@ -37,6 +39,7 @@ module _ (N : Numbers) (range : InRange N) (timing sums : List ℕ) (times : Tim
       ∙ sym (sum-over (leaving (lineOf N) k) k (N .trains))))
       (range-of-line (lineOf N) (line-in-range N range) .leaving k a b)
 
+  -- from a later station on no more board
   sums-given : SumsGiven (N .trains) sums
   sums-given =
       record {
@@ -54,6 +57,7 @@ module _ (N : Numbers) (range : InRange N) (timing sums : List ℕ) (times : Tim
             );
       }
 
+  -- those aboard, by the line
   aboard-same : (k l : ℕ) → 1 ≤ k → k < l → l ≤ N .trains
       → aboardIn (N .trains) sums k l ≡ bookOf (lineOf N) .aboard k l
   unfolding aboardIn lineOf lineFrom
@@ -65,6 +69,7 @@ module _ (N : Numbers) (range : InRange N) (timing sums : List ℕ) (times : Tim
       ∙ sym (sum-over (λ t. leaving (lineOf N) k t - leaving (lineOf N) l t) l (N .trains))
       ∙ sym (aboard-leaving (lineOf N) k l (omega arith) (omega arith))
 
+  -- in range
   pub book-given : BookGiven (N .trains) timing sums
   book-given =
       record {
@@ -78,6 +83,7 @@ module _ (N : Numbers) (range : InRange N) (timing sums : List ℕ) (times : Tim
         leavers = sums-given;
       }
 
+  -- and alike
   pub books-alike : BooksAlike 1 (bookIn (N .trains) timing sums) (bookOf (lineOf N))
   unfolding lineOf lineFrom
   books-alike =

@@ -10,15 +10,16 @@ use Rattle.line.specs.Alike.{LinesAlike}
 use Rattle.line.specs.Ranges.{LineInRange}
 use Rattle.line.proofs.Base.{base-in-range, base-alike}
 use Rattle.sheet.specs.Numbers.{Numbers}
-use Rattle.sheet.specs.Format.{pairsOf}
 use Rattle.sheet.specs.Accepted.{InRange, SameNumbers, withDelay}
 use Rattle.sheet.specs.Pairs.{IsPair, fieldOfPair, passengersOfPair}
 use Rattle.sheet.proofs.Pairs.{pair-has-field}
 use Rattle.prepare.specs.LineOf.{lineOf}
 
+-- two stations of the line as a pair
 pair : (m i j : ℕ) → 1 ≤ i → i < j → j ≤ m + 1 → IsPair m i j
 pair m i j a b c = record { least = a; apart = b; most = c }
 
+-- every pair has a field, and no field holds more than 10,000
 pub line-in-range : (N : Numbers) → InRange N → LineInRange (lineOf N)
 unfolding lineOf passengersOfPair
 line-in-range N h =
@@ -29,7 +30,7 @@ line-in-range N h =
 
 -- ---- the same numbers
 
--- m gives the pair its field
+-- m gives a pair its field
 pub passengers-same : (N M : Numbers) → SameNumbers N M → (i j : ℕ) → 1 ≤ i → i < j → j ≤ M .trains + 1
     → passengersOfPair N i j ≡ passengersOfPair M i j
 unfolding passengersOfPair
@@ -37,7 +38,7 @@ passengers-same N M same i j a b c =
     let field = pair-has-field (M .trains) i j (pair _ i j a b c) in
     ap (λ (m : ℕ). N .passengers (fieldOfPair m i j)) (same .trains) ∙ same .passengers _ (field .0) (field .1)
 
--- One source delay replaced: from the next train on nothing changed.
+-- one source delay replaced: from the next train on nothing changed
 module _ (N M : Numbers) (i v : ℕ) (same : SameNumbers (withDelay N i v) M) where
   -- lines of m and T apart from the other numbers, because those of N and M are equal but not the same term
   abbrev Alike : ℕ → ℕ → Type 0
@@ -56,7 +57,7 @@ module _ (N M : Numbers) (i v : ℕ) (same : SameNumbers (withDelay N i v) M) wh
       (λ j a b. sym (same-no _ _ (λ e. omega arith)) ∙ same .delay j (omega arith) b)
       (λ j l a b c. passengers-same _ M same j l (omega arith) b c)))
 
--- there is no train 0
+-- nothing replaced, since there is no train 0
 pub lines-of-same : (N M : Numbers) → SameNumbers N M → LinesAlike 1 (lineOf N) (lineOf M)
 lines-of-same N M same =
     lines-after N M 0 0

@@ -30,15 +30,19 @@ use Rattle.prepare.proofs.Holding.{timing-of-same, sums-of-same}
 
 module _ (s : List ℕ) (before after : Lists) (a : Reading) (decoded : Decoded s before after a)
     (long : Lengths 64 2080 before) (m T : ℕ) (accepted : a ≡ Accepted m T) where
+  -- the checks let it pass
   passed : (sheetVerdict s ≡ Fine) × (m ≡ trainsOf s) × (T ≡ periodOf s)
   passed = accepted-fine _ _ _ (sym accepted ∙ decoded .answer)
 
+  -- the lists hold its numbers
   same : SameNumbers (numbersIn m T after) (numbersOf s)
   same = decoded-numbers s before after a decoded m T (passed .1) (passed .2) (passed .0)
 
+  -- in their lengths
   lengths : Lengths 64 2080 after
   lengths = decoded-lengths s before after a decoded long
 
+  -- and in range
   range : InRange (numbersIn m T after)
   range = in-range-same _ (numbersOf s) same (accepted-of-fine s (passed .0) .numbers)
 
@@ -60,6 +64,7 @@ module _ (s : List ℕ) (before after : Lists) (a : Reading) (decoded : Decoded 
         delay = omega (arith, lengths .delays);
       }
 
+  -- no field is over 10,000
   pub fields-given : FieldsGiven m (after .passengers)
   fields-given =
       let few = range .trains-most in
@@ -71,6 +76,7 @@ module _ (s : List ℕ) (before after : Lists) (a : Reading) (decoded : Decoded 
 
   -- ---- what is filled
 
+  -- times and sums of the lists are those of the sheet
   pub prepared-accepted : (timing sums : List ℕ)
       → HoldsTimes m T (timesIn (after .departures) (after .driving) (after .delays)) timing
       → HoldsSums m (pairIn m (after .passengers)) sums → Prepared (sheetVerdict s) s timing sums (Accepted m T)

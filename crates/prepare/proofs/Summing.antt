@@ -1,14 +1,14 @@
 -- The sums of a line, column by column: in the column of train l each is that of the next station and one pair more.
---   ColumnTo n l sums v k   the columns before l stand there, and in that of l the sums of stations k + 1 to l, the last
---                           stored being v; n are the passengers by pair
+--   ColumnTo n l sums v k   the columns before l stand there, and in that of l the sums of stations k + 1 to l, of
+--                           which v was stored last; n are the passengers by pair
 -- Assumes nothing.
-use mathlib.Core.Path.{_≡_, ap, sym, _∙_}
+use mathlib.Core.Path.{_≡_, sym, _∙_}
 use mathlib.Core.List.{List}
 use mathlib.Core.Logic.{inl, inr}
 use Prim.Native.Nat.{ℕ, _+_, _-_, _*_, _≤_, _<_}
 use native.Mathlib.Nat.{le-refl}
 use native.Mathlib.Omega.{arith}
-use lib.ListN.{length, set, length-set}
+use lib.ListN.{set, length-set}
 use lib.Seq.{getD-set-same, getD-set-other}
 use Rattle.lists.proofs.Order.{same-or-not}
 use Rattle.line.specs.Sum.{sum_from_to_}
@@ -50,6 +50,7 @@ module _ (n : ℕ → ℕ → ℕ) (l : ℕ) (sums : List ℕ) where
 -- the sum of station k and train l is stored
 module _ (n : ℕ → ℕ → ℕ) (l : ℕ) (sums : List ℕ) (v k p u : ℕ) (C : ColumnTo n l sums v k) (first : 1 ≤ k)
     (few : l ≤ 64) (at : p ≡ placeOfSum k l) (room : p < 4096) (e : u ≡ n k (l + 1)) (most : u ≤ 10000) where
+  -- the list then
   after : List ℕ
   after = set sums p (v + u)
 
@@ -62,6 +63,7 @@ module _ (n : ℕ → ℕ → ℕ) (l : ℕ) (sums : List ℕ) (v k p u : ℕ) (
       let one = place-of-sum-one i t k l b (omega arith) (omega (arith, C .most)) few (same ∙ at) in
       not (omega arith) (one .1))
 
+  -- what was stored last and one pair more
   next-sum : v + u ≡ sum (λ i. n i (l + 1)) from k to l
   next-sum =
       omega (
@@ -73,10 +75,12 @@ module _ (n : ℕ → ℕ → ℕ) (l : ℕ) (sums : List ℕ) (v k p u : ℕ) (
         over-first k (l + 1) (λ i. n i (l + 1)) (omega (arith, C .most)),
       )
 
+  -- stands in its place
   stored-here : leavingIn after k l ≡ v + u
   unfolding leavingIn after
   stored-here = rw (sym at) (getD-set-same sums p (v + u) 0 (omega (arith, C .before .long)))
 
+  -- so that one station more is summed
   pub column-next : ColumnTo n l (set sums p (v + u)) (v + u) (k - 1)
   unfolding after
   column-next =

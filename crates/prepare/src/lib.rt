@@ -1,5 +1,5 @@
-// From a sheet to what rows and walk read: one list of times and one of sums. No other crate turns a
-// sheet's numbers into them.
+// From a sheet to what rows and walk read: one list of times and one of sums. No other crate makes
+// them of a sheet's numbers.
 mod sums;
 mod times;
 

@@ -23,7 +23,8 @@ fn pair(passengers: &[u32], m: u32, from: Station, to: Station) -> u32
 fn sum_column(sums: &mut [u32], passengers: &[u32], m: u32, train: Train)
     requires { ⌜ FieldsGiven m (now passengers) × (1 ≤ train .0) × (train .0 ≤ m)
         × HoldsSums (train .0 - 1) (pairIn m (now passengers)) (now sums) ⌝ }
-    ensures { λ _. ⌜ HoldsSums (train .0) (pairIn m (now (passengers .entry))) (now (sums .exit)) ⌝ }
+    ensures { λ _. ⌜ HoldsSums (train .0) (pairIn m (now (passengers .entry)))
+        (now (sums .exit)) ⌝ }
 {
     let last = train.leaves();
     let to = train.reaches();

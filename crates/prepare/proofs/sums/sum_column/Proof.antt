@@ -1,5 +1,5 @@
--- `sums::sum_column` meets its contract. Invariant: the columns before stand, and the sums of the stations from k + 1 on.
--- Measure: k.
+-- `sums::sum_column` meets its contract. Invariant: the columns before stand, and in this one the sums of the stations
+-- from k + 1 on. Measure: k.
 -- Assumes nothing.
 use borrow.Author.Needs.{needs}
 use mathlib.Core.Path.{ap, _∙_}

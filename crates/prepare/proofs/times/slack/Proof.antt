@@ -2,7 +2,7 @@
 -- Assumes nothing.
 use borrow.Author.Needs.{needs}
 use mathlib.Core.Path.{_≡_, refl}
-use Prim.Native.Nat.{_-_}
+use Prim.Native.Nat.{_+_, _-_, _≤_}
 use native.Mathlib.Omega.{arith}
 use lib.ListN.{getD}
 use Rattle.lists.specs.Run.{nth}
@@ -30,19 +30,14 @@ reads c =
       nth-index (start .driving .now) _ (i - 1) back,
     )
 
--- the train departs no earlier than its feeder
-sub-result : tie.Need-sub-result
-sub-result c =
-    let at = c .before .before in
-    let read = reads at in
-    omega (arith, read, start-of at .pre .enough (omega (arith, at .before .before .before .before .if1 .left)))
-
--- nor before the feeder is planned to arrive
-sub-result-2 : tie.Need-sub-result-2
-sub-result-2 c =
-    let at = c .before .before .before in
-    let read = reads at in
-    omega (arith, read, start-of at .pre .enough (omega (arith, at .before .before .before .before .if1 .left)))
+-- the train departs no earlier than its feeder is planned to arrive
+enough : (c : tie.After-index2) →
+    let start = start-of c .args in
+    getD (start .departures .now) (c .index2 .result) 0 + getD (start .driving .now) (c .index2 .result) 0
+    ≤ getD (start .departures .now) (c .before .before .before .index .result) 0
+enough c =
+    let read = reads c in
+    omega (arith, read, start-of c .pre .enough (omega (arith, c .before .before .before .before .if1 .left)))
 
 -- the three numbers are those of the definition
 returns-2 : tie.Need-returns-2
@@ -61,8 +56,8 @@ slack-spec =
     (λ c. search needs)
     (λ c. search needs)
     (λ c. search needs)
-    sub-result
+    (λ c. omega (arith, enough (c .before .before)))
     (λ c. search needs)
     (λ c. search needs)
-    sub-result-2
+    (λ c. omega (arith, enough (c .before .before .before)))
     returns-2)
