@@ -2,14 +2,8 @@
 -- Assumes nothing.
 use borrow.Author.Needs.{needs}
 use native.Mathlib.Omega.{arith}
-use Rattle.amend.proofs.put_delay.Statement.{statement}
-use Rattle.amend.proofs.put_delay.Tie as tie
-
-delays-requires : tie.Need-delays-requires
-delays-requires c κs = search needs
-
-index-requires : tie.Need-index-requires
-index-requires c κs = search needs
+use Rattle.planner.proofs.put_delay.Statement.{statement}
+use Rattle.planner.proofs.put_delay.Tie as tie
 
 -- the field begins below bit 2 ^ 32
 mul-put : tie.Need-mul-put
@@ -32,9 +26,6 @@ put-requires c κs =
     let room = at .before .before .before .pre in
     rw (at .before .delays .ensures, at .index .ensures) (room .within, omega (arith, room .small))
 
-same-length : tie.Need-same-length
-same-length c = search needs
-
 -- the field is that of the train
 returns : tie.Need-returns
 returns c =
@@ -48,11 +39,4 @@ returns c =
 pub put-delay-spec : {M : Type 1} → statement M
 put-delay-spec =
     tie.close
-    (tie.spec
-    delays-requires
-    index-requires
-    mul-put
-    add-put
-    put-requires
-    same-length
-    returns)
+    (tie.spec (λ c κs. search needs) (λ c κs. search needs) mul-put add-put put-requires (λ c. search needs) returns)

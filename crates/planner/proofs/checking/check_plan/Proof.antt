@@ -9,27 +9,12 @@ use Rattle.planner.proofs.Taken.{decoding-same}
 use Rattle.planner.proofs.checking.check_plan.Statement.{statement}
 use Rattle.planner.proofs.checking.check_plan.Tie as tie
 
-check-buffers-requires : tie.Need-check-buffers-requires
-check-buffers-requires c κs = search needs
-
-enum-known-lengths : tie.Need-enum-known-lengths
-enum-known-lengths c = search needs
-
-refused-requires : tie.Need-refused-requires
-refused-requires c κs = search needs
-
 -- a length is wrong
 returns : tie.Need-returns
 returns c =
     let told = c .before .before in
     let refused = sym (told .lengths .given .1) ∙ told .before .before .check-buffers .ensures in
     decoding-refused _ _ _ (then-stop _ _ refl refused) (c .refused .ensures .0) (c .refused .ensures .1)
-
-enum-told : tie.Need-enum-told
-enum-told c = search needs
-
-decode-requires : tie.Need-decode-requires
-decode-requires c κs = search needs
 
 -- the sheet decides
 returns-2 : tie.Need-returns-2
@@ -40,11 +25,5 @@ returns-2 c =
 pub check-plan-spec : {M : Type 1} → statement M
 check-plan-spec =
     tie.close
-    (tie.spec
-    check-buffers-requires
-    enum-known-lengths
-    refused-requires
-    returns
-    enum-told
-    decode-requires
-    returns-2)
+    (tie.spec (λ c κs. search needs) (λ c. search needs) (λ c κs. search needs) returns (λ c. search needs)
+    (λ c κs. search needs) returns-2)

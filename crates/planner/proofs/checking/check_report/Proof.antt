@@ -13,12 +13,6 @@ use Rattle.planner.proofs.Taken.{decoding-same, taken-fine, taken-train
 use Rattle.planner.proofs.checking.check_report.Statement.{statement}
 use Rattle.planner.proofs.checking.check_report.Tie as tie
 
-check-plan-requires : tie.Need-check-plan-requires
-check-plan-requires c κs = search needs
-
-enum-known-answer : tie.Need-enum-known-answer
-enum-known-answer c = search needs
-
 -- the lengths are right, and the sheet has at most 64 trains
 check-own-requires : tie.Need-check-own-requires
 check-own-requires c κs =
@@ -27,12 +21,6 @@ check-own-requires c κs =
     let both = then-fine _ (sheetVerdict _) (taken-fine _ _ _ _ _ checked answer) in
     let few = accepted-of-fine _ (both .1) .numbers .trains-most in
     (omega (arith, few, taken-trains _ _ _ _ _ checked answer), lengths-of-fine _ _ _ (both .0) .0)
-
-enum-known-own : tie.Need-enum-known-own
-enum-known-own c = search needs
-
-refused-requires : tie.Need-refused-requires
-refused-requires c κs = search needs
 
 -- the report is refused
 returns : tie.Need-returns
@@ -45,12 +33,6 @@ returns c =
     let refused = sym (c .before .before .own .given .1) ∙ rw trains at (asked .check-own .ensures) in
     decoding-refused _ _ _ (then-pass _ _ _ fine refused ∙ then-assoc _ (sheetVerdict _) _)
     (c .refused .ensures .0) (c .refused .ensures .1)
-
-enum-told : tie.Need-enum-told
-enum-told c = search needs
-
-enum-told-2 : tie.Need-enum-told-2
-enum-told-2 c = search needs
 
 -- it is accepted
 returns-2 : tie.Need-returns-2
@@ -72,14 +54,5 @@ returns-3 c =
 pub check-report-spec : {M : Type 1} → statement M
 check-report-spec =
     tie.close
-    (tie.spec
-    check-plan-requires
-    enum-known-answer
-    check-own-requires
-    enum-known-own
-    refused-requires
-    returns
-    enum-told
-    enum-told-2
-    returns-2
-    returns-3)
+    (tie.spec (λ c κs. search needs) (λ c. search needs) check-own-requires (λ c. search needs) (λ c κs. search needs)
+    returns (λ c. search needs) (λ c. search needs) returns-2 returns-3)

@@ -1,22 +1,20 @@
--- `check_row` meets its contract. Invariant: the cells from column l on are still to be checked. Measure: how many.
+-- `checking::check_row` meets its contract. Invariant: the cells from column l on are still to be checked. Measure: how many.
 -- Assumes nothing.
 use borrow.Author.Needs.{needs}
 use mathlib.Core.Path.{refl}
 use Prim.Native.Nat.{_+_, _-_}
 use native.Mathlib.Omega.{arith}
 use Rattle.rail.proofs.Checks.{Searching, search-first, search-next, search-stop, search-end, hit, miss}
-use Rattle.amend.specs.Checks.{cellVerdict, rowVerdict}
-use Rattle.amend.proofs.check_row.Statement.{statement}
-use Rattle.amend.proofs.check_row.Tie as tie
+use Rattle.rail.proofs.Checks.{no-more}
+use Rattle.planner.specs.ReportChecks.{cellVerdict, rowVerdict}
+use Rattle.planner.proofs.checking.check_row.Statement.{statement}
+use Rattle.planner.proofs.checking.check_row.Tie as tie
 
 abbrev Inv-loop : tie.InvT-loop
 Inv-loop cells m first l₀ l = Searching (cellVerdict m cells (first .0)) (first .0) (m + 1 - first .0) l
 
 abbrev μ-loop : tie.MeasureT-loop
 μ-loop cells m first l₀ l = m + 1 - l
-
-leaves-requires : tie.Need-leaves-requires Inv-loop μ-loop
-leaves-requires c κs = search needs
 
 loop-holds : tie.Need-loop-holds Inv-loop μ-loop
 loop-holds c = rw (c .leaves .ensures) (search-first _ _ _)
@@ -35,19 +33,13 @@ returns c =
     search-stop _ _ _ (asked .before .before .loop .inv) (omega arith) refl
     (hit _ _ _ _ (omega (arith, asked .cell-at .ensures, c .if1 .taken)))
 
-add-l : tie.Need-add-l Inv-loop μ-loop
-add-l c = search needs
-
-loop-less : tie.Need-loop-less Inv-loop μ-loop
-loop-less c = search needs
-
 -- it is not
 loop-again : tie.Need-loop-again Inv-loop μ-loop
 unfolding cellVerdict
 loop-again c =
     let asked = c .before in
     search-next _ _ _ (asked .before .before .loop .inv) (omega arith) refl
-    (miss _ _ _ _ _ (omega (arith, asked .cell-at .ensures)) refl)
+    (miss _ _ _ _ _ (omega (arith, asked .cell-at .ensures)) no-more)
 
 -- every cell passed
 returns-2 : tie.Need-returns-2 Inv-loop μ-loop
@@ -57,14 +49,5 @@ returns-2 c = search-end _ _ _ (c .before .loop .inv) (omega arith)
 pub check-row-spec : {M : Type 1} → statement M
 check-row-spec =
     tie.close
-    (tie.spec
-    Inv-loop
-    μ-loop
-    leaves-requires
-    loop-holds
-    cell-at-requires
-    returns
-    add-l
-    loop-less
-    loop-again
-    returns-2)
+    (tie.spec Inv-loop μ-loop (λ c κs. search needs) loop-holds cell-at-requires returns (λ c. search needs)
+    (λ c. search needs) loop-again returns-2)

@@ -1,4 +1,4 @@
--- `check_rows_after` meets its contract. Invariant: the rows from k on are still to be checked. Measure: how many.
+-- `checking::check_rows_after` meets its contract. Invariant: the rows from k on are still to be checked. Measure: how many.
 -- Assumes nothing.
 use borrow.Author.Needs.{needs}
 use mathlib.Core.Path.{_≡_, _∙_, ap}
@@ -6,18 +6,15 @@ use Prim.Native.Nat.{ℕ, _+_, _-_, _≤_}
 use native.Mathlib.Omega.{arith}
 use Rattle.rail.specs.Verdict.{firstOf}
 use Rattle.rail.proofs.Checks.{Searching, search-first, search-next, search-stop, search-end}
-use Rattle.amend.specs.Checks.{rowVerdict, laterVerdict}
-use Rattle.amend.proofs.check_rows_after.Statement.{statement}
-use Rattle.amend.proofs.check_rows_after.Tie as tie
+use Rattle.planner.specs.ReportChecks.{rowVerdict, laterVerdict}
+use Rattle.planner.proofs.checking.check_rows_after.Statement.{statement}
+use Rattle.planner.proofs.checking.check_rows_after.Tie as tie
 
 abbrev Inv-loop : tie.InvT-loop
 Inv-loop cells m k₀ k = (1 ≤ k) × Searching (rowVerdict m cells) k₀ (m + 1 - k₀) k
 
 abbrev μ-loop : tie.MeasureT-loop
 μ-loop cells m k₀ k = m + 1 - k
-
-add-k : tie.Need-add-k Inv-loop μ-loop
-add-k c = search needs
 
 loop-holds : tie.Need-loop-holds Inv-loop μ-loop
 loop-holds c = (omega arith, search-first _ _ _)
@@ -27,9 +24,6 @@ check-row-requires : tie.Need-check-row-requires Inv-loop μ-loop
 check-row-requires c κs =
     let start = c .before .before .before .before .pre in
     (c .before .loop .inv .0, omega arith, start .1, start .2)
-
-enum-told : tie.Need-enum-told Inv-loop μ-loop
-enum-told c = search needs
 
 -- the checks from row i + 1 on are those after train i
 after : (m i : ℕ) → m + 1 - (i + 1) ≡ m - i
@@ -43,15 +37,6 @@ returns c =
     search-stop _ _ _ (turn .before .before .loop .inv .1) (omega arith) (c .enum-told .given .1)
     (turn .check-row .ensures)
     ∙ ap (firstOf _ _) (after _ _)
-
-enum-told-2 : tie.Need-enum-told-2 Inv-loop μ-loop
-enum-told-2 c = search needs
-
-add-k-2 : tie.Need-add-k-2 Inv-loop μ-loop
-add-k-2 c = search needs
-
-loop-less : tie.Need-loop-less Inv-loop μ-loop
-loop-less c = search needs
 
 -- it passed: the rows after it are still to be checked
 loop-again : tie.Need-loop-again Inv-loop μ-loop
@@ -70,16 +55,5 @@ returns-2 c = search-end _ _ _ (c .before .loop .inv .1) (omega arith) ∙ ap (f
 pub check-rows-after-spec : {M : Type 1} → statement M
 check-rows-after-spec =
     tie.close
-    (tie.spec
-    Inv-loop
-    μ-loop
-    add-k
-    loop-holds
-    check-row-requires
-    enum-told
-    returns
-    enum-told-2
-    add-k-2
-    loop-less
-    loop-again
-    returns-2)
+    (tie.spec Inv-loop μ-loop (λ c. search needs) loop-holds check-row-requires (λ c. search needs) returns
+    (λ c. search needs) (λ c. search needs) (λ c. search needs) loop-again returns-2)

@@ -1,0 +1,13 @@
+-- `checking::check_numbers` meets its contract: each answer is the first check that refuses.
+-- Assumes nothing.
+use Rattle.rail.proofs.Checks.{chain}
+use Rattle.planner.specs.ReportChecks.{reportChecks}
+use Rattle.planner.proofs.checking.check_numbers.Statement.{statement}
+use Rattle.planner.proofs.checking.check_numbers.Tie as tie
+
+pub check-numbers-spec : {M : Type 1} → statement M
+unfolding reportChecks
+check-numbers-spec =
+    tie.close
+    (tie.spec (λ c. search chain depth 4) (λ c. search chain depth 4) (λ c. search chain depth 4)
+    (λ c. search chain depth 4))
