@@ -8,9 +8,6 @@ use Rattle.line.proofs.Choices.{prefer-of-go-less, prefer-of-keep-le}
 use Rattle.walk.proofs.prefer.Statement.{statement}
 use Rattle.walk.proofs.prefer.Tie as tie
 
-returns : tie.Need-returns
-returns c = search needs
-
 -- go is less
 returns-2 : tie.Need-returns-2
 returns-2 c =
@@ -24,4 +21,4 @@ returns-3 c =
     ap byteOf (sym (prefer-of-keep-le (start .keep) (start .go) (start .excess) (omega arith)))
 
 pub prefer-spec : {M : Type 1} → statement M
-prefer-spec = tie.close (tie.spec returns returns-2 returns-3)
+prefer-spec = tie.close (tie.spec (λ c. search needs) returns-2 returns-3)

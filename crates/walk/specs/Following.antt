@@ -1,0 +1,55 @@
+-- What the steps of the walk need and leave. Document 01, "Four operations", report: comparing the two choices.
+--   ChoiceGiven          what comparing them at station l on the run from k needs
+--   StepGiven, Stepped   one station
+--   WalkGiven            the whole walk; what it leaves is Walked
+-- Assumes nothing.
+use Prim.Native.Nat.{ℕ, _≤_, _<_}
+use mathlib.Core.Path.{_≡_}
+use mathlib.Core.List.{List}
+use lib.ListN.{length}
+use Rattle.line.specs.Cells.{Table, Book, arrivalOn, choice, under}
+use Rattle.line.specs.Ranges.{limit}
+use Rattle.cells.specs.Place.{cellCount}
+use Rattle.cells.specs.Sums.{Boarders}
+use Rattle.cells.specs.Book.{bookIn, BookGiven, CellsInRange}
+use Rattle.cells.specs.Costs.{keepIn, goIn, CostsAlong}
+use Rattle.cells.specs.Shown.{byteOf}
+
+-- costs and cells that can be added
+pub record ChoiceGiven (m k l : ℕ) (costs cells : List ℕ) : Type 0 where
+  pub trains : m ≤ 64
+  pub first : 1 ≤ k
+  pub run : k ≤ l
+  pub last : l ≤ m
+  pub long-costs : length costs ≡ 192
+  pub keep-most : keepIn costs l ≤ limit
+  pub go-most : goIn costs l ≤ limit
+  pub long : length cells ≡ cellCount
+  pub range : CellsInRange m cells
+
+-- the walk stands at station l, on the run from k, whose costs are worked
+pub record StepGiven (m k l : ℕ) (costs cells timing sums boarding : List ℕ) : Type 0 where
+  pub given : BookGiven m timing sums
+  pub boarders : Boarders m sums boarding
+  pub first : 1 ≤ k
+  pub run : k < l
+  pub last : l ≤ m
+  pub along : CostsAlong (bookIn m timing sums) k costs
+  pub long : length cells ≡ cellCount
+  pub range : CellsInRange m cells
+
+-- what the station decides, the train that the run then begins with, how late train l arrives, and the costs of that run
+pub record Stepped (B : Book) (c : Table) (k l shows begins arrives : ℕ) (costs : List ℕ) : Type 0 where
+  pub byte : shows ≡ byteOf (choice B c k l)
+  pub first : begins ≡ under (choice B c k l) k l
+  pub late : arrives ≡ arrivalOn (B .running) begins l
+  pub along : CostsAlong B begins costs
+
+pub record WalkGiven (m : ℕ) (decisions delays costs cells timing sums boarding : List ℕ) : Type 0 where
+  pub given : BookGiven m timing sums
+  pub boarders : Boarders m sums boarding
+  pub long-decisions : length decisions ≡ 64
+  pub long-delays : length delays ≡ 64
+  pub long-costs : length costs ≡ 192
+  pub long : length cells ≡ cellCount
+  pub range : CellsInRange m cells
