@@ -71,7 +71,7 @@ filled-one {d = d} {n = n} {new = new} {new′ = new′} g h =
 
 module _ (s : List ℕ) (before after : Lists) (h : ColumnsRead s before after) where
   -- lengths are kept
-  pub columns-lengths : Lengths 64 2080 before → Lengths 64 2080 after
+  pub columns-lengths : {n k : ℕ} → Lengths n k before → Lengths n k after
   columns-lengths long =
       record {
         departures = h .departures .long ∙ long .departures;

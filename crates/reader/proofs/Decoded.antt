@@ -24,7 +24,7 @@ use Rattle.reader.proofs.Columns.{columns-lengths, columns-numbers, col
 
 module _ (s : List ℕ) (before after : Lists) (a : Reading) (h : Decoded s before after a) where
   -- lengths are kept, whatever the answer
-  pub decoded-lengths : Lengths 64 2080 before → Lengths 64 2080 after
+  pub decoded-lengths : {n k : ℕ} → Lengths n k before → Lengths n k after
   decoded-lengths long = elim (fine-or-refused (headVerdict s)) [
     | inl fine ↦ columns-lengths s before after (h .filled fine) long
     | inr (q, refused) ↦ rw (h .kept q refused) long

@@ -1,9 +1,9 @@
 -- What taking a sheet apart needs and leaves. Document 01, "Four operations", read: fields first.
---   ColumnRoom s c n size      reading n places of the column c of the sheet s into a list of `size` numbers
---   Head s m                   the sheet s has m trains and the length that m demands
---   Body s m L                 behind such a head, the numbers of the sheet stand in the lists L
---   ColumnsRead s before after     the lists hold the sheet's columns, fields first, the other places as before
---   Decoded s before after a   what decode answers for the sheet s, and what it leaves of the lists
+--   ColumnRoom s c n size        n places of the column c can be read from the sheet s into a list of `size` numbers
+--   Head s m                     the sheet s has m trains and the length that m demands
+--   Body s m L                   behind such a head, the numbers of the sheet stand in the lists L
+--   ColumnsRead s before after   the lists hold the sheet's columns, fields first, the other places as before
+--   Decoded s before after a     what decode answers for the sheet s, and what it leaves of the lists
 -- Assumes nothing.
 use Prim.Native.Nat.{ℕ, _+_, _*_, _≤_, _<_}
 use mathlib.Core.Path.{_≡_}

@@ -26,6 +26,7 @@ abbrev pub readPeriod : Reading → ℕ
 readPeriod (Accepted m T) = T
 readPeriod (ReadRefused r) = 0
 
+-- m and T where the verdict is fine, else its refusal
 abbrev pub readingOf : Verdict → ℕ → ℕ → Reading
 readingOf Fine m T = Accepted m T
 readingOf (Refused r) m T = ReadRefused r
