@@ -7,7 +7,6 @@ use Rattle.rail.specs.declared.Refusal.{Refusal}
 use Rattle.rail.specs.declared.Verdict.{Verdict}
 use Rattle.rail.specs.declared.Verdict.the-variants.{Fine, Refused}
 use Rattle.rail.specs.Verdict.{ifFine, numberIn, placeIn}
-use Rattle.reader.specs.declared.Reading.{Reading}
 use Rattle.reader.specs.declared.Reading.the-variants.{Accepted, Refused as ReadRefused}
 use Rattle.reader.specs.Reading.{readNumber, readPlace, readTrains, readPeriod, readingOf}
 
@@ -30,24 +29,10 @@ pub refused-verdict : (v : Verdict) (M P : ℕ) {r : Refusal} → ReadRefused r 
 refused-verdict Fine M P e = zero-not-one (cc)
 refused-verdict (Refused r) M P e = cc
 
--- ---- what the answer carries
-
--- the number is the verdict's
-pub read-number : (v : Verdict) (m T : ℕ) {a : Reading} → a ≡ readingOf v m T → readNumber a ≡ numberIn v
-read-number Fine m T e = ap readNumber e
-read-number (Refused r) m T e = ap readNumber e
-
--- and so is the place
-pub read-place : (v : Verdict) (m T : ℕ) {a : Reading} → a ≡ readingOf v m T → readPlace a ≡ placeIn v
-read-place Fine m T e = ap readPlace e
-read-place (Refused r) m T e = ap readPlace e
-
--- m where the verdict is fine, else 0
-pub read-trains : (v : Verdict) (m T : ℕ) {a : Reading} → a ≡ readingOf v m T → readTrains a ≡ ifFine v m 0
-read-trains Fine m T e = ap readTrains e
-read-trains (Refused r) m T e = ap readTrains e
-
--- T where the verdict is fine, else 0
-pub read-period : (v : Verdict) (m T : ℕ) {a : Reading} → a ≡ readingOf v m T → readPeriod a ≡ ifFine v T 0
-read-period Fine m T e = ap readPeriod e
-read-period (Refused r) m T e = ap readPeriod e
+-- what the answer carries: number and place of the verdict, and m and T where it is fine
+pub reading-carries : (v : Verdict) (m T : ℕ) →
+    let a = readingOf v m T in
+    (readNumber a ≡ numberIn v) × (readPlace a ≡ placeIn v) × (readTrains a ≡ ifFine v m 0)
+    × (readPeriod a ≡ ifFine v T 0)
+reading-carries Fine m T = (refl, refl, refl, refl)
+reading-carries (Refused r) m T = (refl, refl, refl, refl)

@@ -1,4 +1,4 @@
--- What read leaves, refused and accepted; and that its promise leaves nothing open.
+-- What read leaves, refused and accepted; what its answer carries; and that its promise leaves nothing open.
 -- Assumes nothing.
 use mathlib.Core.Path.{_≡_, refl, sym, ap, subst, _∙_}
 use mathlib.Core.List.{List}
@@ -8,6 +8,7 @@ use Rattle.lists.proofs.Fill.{filled-padded}
 use Rattle.rail.specs.declared.Refusal.{Refusal}
 use Rattle.rail.specs.declared.Verdict.{Verdict}
 use Rattle.rail.specs.declared.Verdict.the-variants.{Refused}
+use Rattle.rail.specs.Verdict.{ifFine, numberIn, placeIn}
 use Rattle.rail.proofs.Checks.{if-fine, if-refused, then-pass}
 use Rattle.sheet.specs.Format.{trainsOf, periodOf}
 use Rattle.sheet.specs.Numbers.{Lists, lists}
@@ -16,10 +17,10 @@ use Rattle.sheet.specs.Accepted.{Lengths}
 use Rattle.sheet.proofs.Facts.{fine-of-lengths}
 use Rattle.reader.specs.declared.Reading.{Reading}
 use Rattle.reader.specs.declared.Reading.the-variants.{Accepted, Refused as ReadRefused}
-use Rattle.reader.specs.Reading.{readingOf}
+use Rattle.reader.specs.Reading.{readNumber, readPlace, readTrains, readPeriod, readingOf}
 use Rattle.reader.specs.Decoded.{Decoded}
 use Rattle.reader.specs.Read.{readVerdict, Read}
-use Rattle.reader.proofs.ReadingOf.{reading-refused, accepted-fine, refused-verdict}
+use Rattle.reader.proofs.ReadingOf.{reading-refused, accepted-fine, refused-verdict, reading-carries}
 use Rattle.reader.proofs.Decoded.{decoded-columns}
 
 -- a refusal changes nothing
@@ -68,7 +69,24 @@ module _ (s : List ℕ) (before : Lists) (room : Lengths 64 2080 before) where
         passengers = filled-padded _ 2080 _ (columns .passengers) ∙ if-fine _ _ _ e;
       })
 
--- ---- no choice
+-- ---- what its promise fixes
+
+module _ {s : List ℕ} {before after : Lists} {a : Reading} (h : Read s before after a) where
+  -- the number is that of the first check that refuses
+  pub read-number : readNumber a ≡ numberIn (readVerdict s before)
+  read-number = ap readNumber (h .answer) ∙ reading-carries (readVerdict s before) (trainsOf s) (periodOf s) .0
+
+  -- and so is the place
+  pub read-place : readPlace a ≡ placeIn (readVerdict s before)
+  read-place = ap readPlace (h .answer) ∙ reading-carries (readVerdict s before) (trainsOf s) (periodOf s) .1
+
+  -- m, or 0 where refused
+  pub read-trains : readTrains a ≡ ifFine (readVerdict s before) (trainsOf s) 0
+  read-trains = ap readTrains (h .answer) ∙ reading-carries (readVerdict s before) (trainsOf s) (periodOf s) .2
+
+  -- T, or 0 where refused
+  pub read-period : readPeriod a ≡ ifFine (readVerdict s before) (periodOf s) 0
+  read-period = ap readPeriod (h .answer) ∙ reading-carries (readVerdict s before) (trainsOf s) (periodOf s) .3
 
 -- two outcomes that keep read's promise are equal
 pub read-one : (s : List ℕ) (before after after′ : Lists) (a a′ : Reading) → Read s before after a
