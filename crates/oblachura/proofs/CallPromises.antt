@@ -94,8 +94,7 @@ call-promises =
       one-write = λ G before list. call-one (write-one G before);
       read-returns = λ s before list after stored r.
           call-returns _ _ (λ a g.
-          let number = read-number _ _ _ _ g in
-          (number, λ k. number k ∷ read-place _ _ _ _ g k ∷ read-trains _ _ _ _ g k ∷ read-period _ _ _ _ g k ∷ []));
+          (read-number g, λ k. read-number g k ∷ read-place g k ∷ read-trains g k ∷ read-period g k ∷ []));
       write-returns = λ G before list after stored r.
           call-returns _ _ (λ a g.
           let number = ap answerNumber (g .answer) ∙ answer-number _ _ in

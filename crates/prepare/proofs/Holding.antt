@@ -3,17 +3,17 @@
 use mathlib.Core.Path.{_≡_, refl, sym, _∙_}
 use mathlib.Core.List.{List}
 use mathlib.Core.Logic.{inl, inr}
-use Prim.Native.Nat.{ℕ, _+_, _-_, _*_, _≤_}
+use Prim.Native.Nat.{ℕ, _+_, _-_, _≤_}
 use native.Mathlib.Omega.{arith}
-use lib.ListN.{length, getD, set, length-set}
-use lib.Seq.{getD-set-same, getD-set-other}
+use lib.ListN.{length, set, length-set}
 use Rattle.lists.proofs.Order.{same-or-not}
 use Rattle.lists.proofs.Choice.{same-yes, same-no}
 use Rattle.line.proofs.Sums.{sum-over, over-same}
 use Rattle.sheet.specs.Numbers.{Times, Numbers}
 use Rattle.sheet.specs.Accepted.{SameNumbers, withDelay}
 use Rattle.sheet.specs.Pairs.{passengersOfPair}
-use Rattle.cells.specs.Timing.{placeOfSlack, placeOfSource, placeOfPeriod, slackIn, sourceIn, periodIn}
+use Rattle.cells.specs.Timing.{placeOfSlack, placeOfSource, placeOfPeriod}
+use Rattle.cells.proofs.Times.{slack-set, slack-stands, source-set, source-stands, period-set, period-stands}
 use Rattle.prepare.specs.Prepared.{HoldsTimes, HoldsSums, TimingOf, SumsOf}
 use Rattle.prepare.proofs.Lines.{passengers-same}
 
@@ -51,7 +51,7 @@ sums-none n sums long = record { long = long; leaving = λ k l a b c. absurd (om
 module _ (i T : ℕ) (x : Times) (timing : List ℕ) (minutes : ℕ) (least : 1 ≤ i) (most : i ≤ 64)
     (H : HoldsTimes (i - 1) T x timing)
     (taken : 2 ≤ i → minutes ≡ x .departure i - x .departure (i - 1) - x .driving (i - 1)) where
-  -- the list after one store, two and three
+  -- the list after one store, two, three
   abbrev with-slack : List ℕ
   with-slack = set timing (placeOfSlack i) minutes
 
@@ -61,41 +61,32 @@ module _ (i T : ℕ) (x : Times) (timing : List ℕ) (minutes : ℕ) (least : 1 
   abbrev with-period : List ℕ
   with-period = set with-source (placeOfPeriod i) T
 
-  -- one of the three columns, each of 64 places: train i has its number, and an earlier train's is as it was
-  column : (place f : ℕ → ℕ) (c first : ℕ) → ((j : ℕ) → place j ≡ 64 * c + (j - 1)) → 1 ≤ first
-      → (first ≤ i → getD with-period (place i) 0 ≡ f i)
-      → ((j : ℕ) → first ≤ j → j ≤ i - 1 → getD timing (place j) 0 ≡ f j)
-      → (j : ℕ) → first ≤ j → j ≤ i → getD with-period (place j) 0 ≡ f j
-  column place f c first stands pos here before j a b = elim (same-or-not j i) [
-    | inl same ↦ rw same (here (omega arith))
-    | inr not ↦
-        getD-set-other with-source _ (place j) T 0 (λ e. omega (arith, stands j))
-        ∙ getD-set-other with-slack _ (place j) _ 0 (λ e. omega (arith, stands j))
-        ∙ getD-set-other timing _ (place j) minutes 0 (λ e. omega (arith, stands j))
-        ∙ before j a (omega arith)
-  ]
-
-  -- none of the three overwrites another
+  -- none of the three overwrites another, nor what an earlier train has
   stored : HoldsTimes i T x with-period
-  unfolding slackIn sourceIn periodIn
   stored =
       record {
         long = simp length-set (H .long);
-        slack = column placeOfSlack (λ j. x .departure j - x .departure (j - 1) - x .driving (j - 1)) 0 2
-            (λ j. omega arith) (omega arith)
-            (λ two.
-            getD-set-other with-source _ (placeOfSlack i) T 0 (λ e. omega arith)
-            ∙ getD-set-other with-slack _ (placeOfSlack i) _ 0 (λ e. omega arith)
-            ∙ getD-set-same timing (placeOfSlack i) minutes 0 (omega (arith, H .long)) ∙ taken two)
-            (H .slack);
-        source = column placeOfSource (x .delay) 1 1 (λ j. omega arith) (omega arith)
-            (λ _.
-            getD-set-other with-source _ (placeOfSource i) T 0 (λ e. omega arith)
-            ∙ getD-set-same with-slack (placeOfSource i) _ 0 (simp length-set (omega (arith, H .long))))
-            (H .source);
-        period = column placeOfPeriod (λ _. T) 2 1 (λ j. omega arith) (omega arith)
-            (λ _. getD-set-same with-source (placeOfPeriod i) T 0 (simp length-set (omega (arith, H .long))))
-            (H .period);
+        slack = λ j a b.
+            slack-stands with-source _ T j (λ e. omega arith) ∙ slack-stands with-slack _ _ j (λ e. omega arith)
+            ∙ elim (same-or-not j i) [
+              | inl same ↦ rw same (slack-set timing _ minutes i refl (omega arith) ∙ taken (omega arith))
+              | inr not ↦ slack-stands timing _ minutes j (λ e. not (omega arith)) ∙ H .slack j a (omega arith)
+            ];
+        source = λ j a b.
+            source-stands with-source _ T j (λ e. omega arith)
+            ∙ elim (same-or-not j i) [
+              | inl same ↦ rw same (source-set with-slack _ _ i refl (simp length-set (omega arith)))
+              | inr not ↦
+                  source-stands with-slack _ _ j (λ e. not (omega arith))
+                  ∙ source-stands timing _ minutes j (λ e. omega arith) ∙ H .source j a (omega arith)
+            ];
+        period = λ j a b. elim (same-or-not j i) [
+          | inl same ↦ rw same (period-set with-source _ T i refl (simp length-set (omega arith)))
+          | inr not ↦
+              period-stands with-source _ T j (λ e. not (omega arith))
+              ∙ period-stands with-slack _ _ j (λ e. omega arith) ∙ period-stands timing _ minutes j (λ e. omega arith)
+              ∙ H .period j a (omega arith)
+        ];
       }
 
   -- list after list; the train leaves station s
@@ -109,19 +100,15 @@ module _ (i T : ℕ) (x : Times) (timing : List ℕ) (minutes : ℕ) (least : 1 
 -- in its place in the list
 pub timing-with-delay : (N : Numbers) (i v : ℕ) (timing : List ℕ) → 1 ≤ i → i ≤ N .trains → N .trains ≤ 64
     → TimingOf N timing → TimingOf (withDelay N i v) (set timing (placeOfSource i) v)
-unfolding slackIn sourceIn periodIn
 timing-with-delay N i v timing least most few H =
     record {
       long = simp length-set (H .long);
-      slack = λ j a b. getD-set-other timing _ (placeOfSlack j) v 0 (λ e. omega arith) ∙ H .slack j a b;
+      slack = λ j a b. slack-stands timing _ v j (λ e. omega arith) ∙ H .slack j a b;
       source = λ j a b. elim (same-or-not j i) [
-        | inl same ↦
-            rw same (getD-set-same timing (placeOfSource i) v 0 (omega (arith, H .long))) ∙ sym (same-yes v _ same)
-        | inr not ↦
-            getD-set-other timing _ (placeOfSource j) v 0 (λ e. not (omega arith)) ∙ H .source j a b
-            ∙ sym (same-no v _ not)
+        | inl same ↦ rw same (source-set timing _ v i refl (omega arith)) ∙ sym (same-yes v _ same)
+        | inr not ↦ source-stands timing _ v j (λ e. not (omega arith)) ∙ H .source j a b ∙ sym (same-no v _ not)
       ];
-      period = λ j a b. getD-set-other timing _ (placeOfPeriod j) v 0 (λ e. omega arith) ∙ H .period j a b;
+      period = λ j a b. period-stands timing _ v j (λ e. omega arith) ∙ H .period j a b;
     }
 
 -- no sum counts a delay

@@ -2,4 +2,4 @@ pub mod Lines
 pub mod Holding
 pub mod Summing
 pub mod Joining
-pub mod Outcome
+pub mod Prepares

@@ -60,7 +60,7 @@ module _ (n : ℕ → ℕ → ℕ) (l : ℕ) (sums : List ℕ) (v k p u : ℕ) (
   stored-other i t a b c not =
       getD-set-other sums p (placeOfSum i t) (v + u) 0
       (λ same.
-      let one = place-of-sum-one i t k l b (omega arith) (omega (arith, C .most)) few (same ∙ at) in
+      let one = place-of-sum-one i t k l b (omega arith) (omega arith) few (same ∙ at) in
       not (omega arith) (one .1))
 
   -- what was stored last and one pair more
@@ -68,17 +68,15 @@ module _ (n : ℕ → ℕ → ℕ) (l : ℕ) (sums : List ℕ) (v k p u : ℕ) (
   next-sum =
       omega (
         arith,
-        C .last,
-        e,
         sum-over (λ i. n i (l + 1)) k l,
         sum-over (λ i. n i (l + 1)) (k + 1) l,
-        over-first k (l + 1) (λ i. n i (l + 1)) (omega (arith, C .most)),
+        over-first k (l + 1) (λ i. n i (l + 1)) (omega arith),
       )
 
   -- stands in its place
   stored-here : leavingIn after k l ≡ v + u
   unfolding leavingIn after
-  stored-here = rw (sym at) (getD-set-same sums p (v + u) 0 (omega (arith, C .before .long)))
+  stored-here = rw (sym at) (getD-set-same sums p (v + u) 0 (omega arith))
 
   -- so that one station more is summed
   pub column-next : ColumnTo n l (set sums p (v + u)) (v + u) (k - 1)
@@ -86,14 +84,14 @@ module _ (n : ℕ → ℕ → ℕ) (l : ℕ) (sums : List ℕ) (v k p u : ℕ) (
   column-next =
       let back : k - 1 + 1 ≡ k = omega arith in
       record {
-        most = omega (arith, C .most);
+        most = omega arith;
         before = record {
           long = simp length-set (C .before .long);
           leaving = λ i t a b c.
               stored-other i t a (omega arith) (omega arith) (λ x y. omega arith) ∙ C .before .leaving i t a b c;
         };
         last = rw back next-sum;
-        small = omega (arith, C .small, C .most);
+        small = omega arith;
         summed = λ i a b. elim (same-or-not i k) [
           | inl same ↦ rw same (stored-here ∙ next-sum)
           | inr not ↦

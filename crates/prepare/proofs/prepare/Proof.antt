@@ -7,7 +7,7 @@ use Rattle.sheet.specs.Numbers.{lists}
 use Rattle.sheet.specs.Checks.{sheetVerdict}
 use Rattle.sheet.specs.Accepted.{Lengths}
 use Rattle.reader.proofs.ReadingOf.{refused-verdict}
-use Rattle.prepare.proofs.Outcome.{train-given, fields-given, prepared-accepted, prepared-refused}
+use Rattle.prepare.proofs.Prepares.{train-given, fields-given, prepared-accepted, prepared-refused}
 use Rattle.prepare.proofs.prepare.Statement.{statement}
 use Rattle.prepare.proofs.prepare.Tie as tie
 

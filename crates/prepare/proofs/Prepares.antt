@@ -53,15 +53,16 @@ module _ (s : List ℕ) (before after : Lists) (a : Reading) (decoded : Decoded 
   unfolding earliestOf
   train-given i a b =
       let few = range .trains-most in
+      let room = lengths in
       record {
         least = a;
         most = omega arith;
         slack = record {
-          room = omega (arith, lengths .departures);
-          feeder = omega (arith, lengths .driving);
+          room = omega arith;
+          feeder = omega arith;
           enough = λ u. le-trans (le-of-eq (sym (below-yes _ _ u))) (range .train i a b .slack);
         };
-        delay = omega (arith, lengths .delays);
+        delay = omega arith;
       }
 
   -- no field is over 10,000
