@@ -115,8 +115,8 @@ refused-for r before after right decisions delays cells =
 -- a refusal of any kind leaves the cells
 pub refused-cells : (r : Refusal) (before after : Buffers) → RefusedFor r before after → after .cells ≡ before .cells
 refused-cells r before after left = elim (true-or-false (blanksOf r)) [
-  | inl yes ↦ left .blanked yes .cells
-  | inr no ↦ ap (λ (b : Buffers). b .cells) (left .kept no)
+  | inl blanks ↦ left .blanked blanks .cells
+  | inr keeps ↦ ap (λ (b : Buffers). b .cells) (left .kept keeps)
 ]
 
 -- ---- two outcomes that keep one promise are equal
@@ -156,12 +156,12 @@ module _ (before after after′ : Buffers) where
 
   refused-for-one : (r : Refusal) → RefusedFor r before after → RefusedFor r before after′ → after ≡ after′
   refused-for-one r P Q = elim (true-or-false (blanksOf r)) [
-    | inl yes ↦
-        let p = P .blanked yes in
-        let q = Q .blanked yes in
+    | inl blanks ↦
+        let p = P .blanked blanks in
+        let q = Q .blanked blanks in
         buffers-one after after′ (p .cells ∙ sym (q .cells)) (p .decisions ∙ sym (q .decisions))
         (p .delays ∙ sym (q .delays))
-    | inr no ↦ P .kept no ∙ sym (Q .kept no)
+    | inr keeps ↦ P .kept keeps ∙ sym (Q .kept keeps)
   ]
 
 -- answers by the same checks are equal if they carry the same
@@ -176,9 +176,9 @@ plan-outcome-one s before after after′ a a′ P Q = elim (fine-or-refused (pla
   | inl e ↦
       let few = accepted-of-plan s before e .1 .numbers .trains-most in
       let one = planned-one before after after′ _ _ _ few (P .accepted e) (Q .accepted e) in
-      (answers-one _ a a′ (P .answer) (Q .answer) (one .0), one .1)
+      (answers-one (planVerdict s before) a a′ (P .answer) (Q .answer) (one .0), one .1)
   | inr (r, e) ↦ (
-    answers-one _ a a′ (P .answer) (Q .answer)
+    answers-one (planVerdict s before) a a′ (P .answer) (Q .answer)
         (refused-carries _ _ _ _ _ P r e ∙ sym (refused-carries _ _ _ _ _ Q r e)),
     refused-for-one before after after′ r (P .refused r e) (Q .refused r e),
   )
@@ -206,9 +206,9 @@ module _ (s : List ℕ) (i v : ℕ) (before : Buffers) (t t′ : List ℕ) (afte
         let range = replaced-accepted s t i v (told .1) (report .least) (report .most) (reported .sheet)
         (report .delay) .numbers in
         let one = reported-one _ _ (range .trains-most) reported (Q .outcome .accepted e) in
-        (answers-one _ a a′ (P .outcome .answer) (Q .outcome .answer) (one .0), one .1, one .2)
+        (answers-one (reportVerdict s i v before) a a′ (P .outcome .answer) (Q .outcome .answer) (one .0), one .1, one .2)
     | inr (r, e) ↦ (
-      answers-one _ a a′ (P .outcome .answer) (Q .outcome .answer)
+      answers-one (reportVerdict s i v before) a a′ (P .outcome .answer) (Q .outcome .answer)
           (refused-carries _ _ _ _ _ (P .outcome) r e ∙ sym (refused-carries _ _ _ _ _ (Q .outcome) r e)),
       P .kept r e ∙ sym (Q .kept r e),
       refused-for-one before after after′ r (P .outcome .refused r e) (Q .outcome .refused r e),

@@ -22,6 +22,7 @@ use Rattle.sheet.specs.Checks.{sheetVerdict}
 use Rattle.sheet.specs.Accepted.{AcceptedSheet}
 use Rattle.sheet.proofs.Facts.{accepted-of-fine, fine-of-accepted}
 use Rattle.sheet.proofs.Refusals.{sheet-refusal-blanks}
+use Rattle.cells.specs.Place.{cellCount}
 use Rattle.planner.specs.Buffers.{Buffers, RightLengths, bufferLengthsVerdict, buffersVerdict}
 use Rattle.planner.specs.Plan.{planVerdict}
 use Rattle.planner.specs.ReportChecks.{ownVerdict, Reportable}
@@ -29,6 +30,10 @@ use Rattle.planner.specs.Report.{reportVerdict}
 use Rattle.planner.proofs.Reportable.{reportable-of-fine, fine-of-reportable, own-refusal-blanks}
 
 -- ---- the buffers
+
+pub cells-of-fine : (cells decisions delays : ℕ) → bufferLengthsVerdict cells decisions delays ≡ Fine → cells ≡ cellCount
+unfolding bufferLengthsVerdict
+cells-of-fine cells decisions delays e = passed-of-fine _ e .0
 
 pub right-of-fine : (b : Buffers) → buffersVerdict b ≡ Fine → RightLengths b
 unfolding bufferLengthsVerdict
@@ -40,7 +45,7 @@ fine-of-right b h = fine-of-passed _ (search needs)
 
 pub buffers-refusal : (b : Buffers) (r : Refusal) → buffersVerdict b ≡ Refused r → OfList BufferLength ≡ r
 unfolding bufferLengthsVerdict
-buffers-refusal b = only-of _ _ (inr refl, inr refl, inr refl, tt)
+buffers-refusal b = only-of _ _ (inr refl, (inr refl, (inr refl, tt)))
 
 -- the lengths, then the checks w
 module _ (b : Buffers) (w : Verdict) where

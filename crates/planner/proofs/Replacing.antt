@@ -15,7 +15,7 @@ use Rattle.sheet.proofs.Meaning.{same-sym}
 use Rattle.sheet.proofs.Amend.{replaced-numbers}
 use Rattle.cells.specs.Timing.{placeOfSource}
 use Rattle.prepare.specs.Prepared.{TimingOf, SumsOf}
-use Rattle.prepare.proofs.Holding.{timing-with-delay, timing-of-same, sums-of-same}
+use Rattle.prepare.proofs.Holding.{timing-with-delay, sums-with-delay, timing-of-same, sums-of-same}
 use Rattle.planner.specs.Workable.{DelayRoom}
 
 module _ (s : List ℕ) (i v : ℕ) (ok : AcceptedSheet s) (least : 1 ≤ i) (most : i ≤ trainsOf s) where
@@ -41,4 +41,4 @@ module _ (s : List ℕ) (i v : ℕ) (ok : AcceptedSheet s) (least : 1 ≤ i) (mo
 
     -- nobody boards or leaves elsewhere for it
     pub replaced-sums : (sums : List ℕ) → SumsOf (numbersOf s) sums → SumsOf (numbersOf t) sums
-    replaced-sums sums leavers = sums-of-same (withDelay (numbersOf s) i v) (numbersOf t) same sums leavers
+    replaced-sums sums leavers = sums-of-same _ _ same sums (sums-with-delay (numbersOf s) i v sums leavers)

@@ -92,11 +92,11 @@ module _ (m i v : ℕ) (cells : List ℕ) where
   pub own-over : 1 ≤ i → i ≤ m → v ≤ 1440 → (k : ℕ) → FirstOver m i cells k
       → ownVerdict m i v cells ≡ Refused (OfReport (CellOverLimit (train k)))
   unfolding ownVerdict reportChecks
-  own-over a b small k h = sym (then-pass _ _ _ (fine-of-passed _ (a, b, small, tt)) (sym (later-over k h)))
+  own-over a b small k h = sym (then-pass _ _ _ (fine-of-passed _ (a, (b, (small, tt)))) (sym (later-over k h)))
 
   pub own-refusal-blanks : (r : Refusal) → ownVerdict m i v cells ≡ Refused r → blanksOf r ≡ true
   unfolding ownVerdict reportChecks laterVerdict rowVerdict cellVerdict
   own-refusal-blanks =
       let Blanks : Refusal → Type 0 = λ r. blanksOf r ≡ true in
-      only-then Blanks _ _ (only-of Blanks _ (inr refl, inr refl, inr refl, tt))
+      only-then Blanks _ _ (only-of Blanks _ (inr refl, (inr refl, (inr refl, tt))))
       (only-first Blanks _ _ _ (λ k. only-first Blanks _ _ _ (λ l. only-of Blanks _ (inr refl, tt))))

@@ -18,7 +18,7 @@ check-rows-after-requires : tie.Need-check-rows-after-requires
 unfolding reportChecks
 check-rows-after-requires c κs =
     let passed = passed-of-fine _ (sym (c .before .before .check-numbers .ensures) ∙ c .enum-told2 .given .1) in
-    let room = c .before .before .before .before .before .pre in
+    let room = c .before .before .before .before .pre in
     (passed .1 .0, room .0, room .1)
 
 -- both pass: the rows decide
