@@ -139,7 +139,7 @@ module _ (s : List ℕ) (i v : ℕ) (before : Buffers) (standing : Standing s (b
       (λ k l x y z. within s (before .cells) standing k l (omega arith) y z) in
       only-then P _ _ (λ r e. inl (sym (buffers-refusal before r e)))
       (only-then P (sheetVerdict s) _ (silent _ (fine-of-accepted s (standing .ok)))
-      (only-then P _ _ (only-of P _ (inr (inr (inl refl)), inr (inr (inl refl)), inr (inr (inr refl)), tt))
+      (only-then P _ _ (only-of P _ (inr (inr (inl refl)), (inr (inr (inl refl)), (inr (inr (inr refl)), tt))))
       (silent _ later)))
 
 module _ (s : List ℕ) (i v : ℕ) (before : Buffers) (t : List ℕ) (after : Buffers) (a : Answer)

@@ -9,9 +9,8 @@ use Rattle.lists.proofs.Order.{same-or-not}
 use Rattle.rail.specs.declared.Verdict.{Verdict}
 use Rattle.rail.specs.declared.Answer.{Answer}
 use Rattle.rail.specs.Verdict.{numberIn, placeIn}
-use Rattle.rail.specs.Answer.{answerNumber, answerPlace, answerCarries}
+use Rattle.rail.specs.Answer.{answerNumber, answerCarries}
 use Rattle.rail.proofs.Checks.{fine-or-refused, if-fine, if-refused}
-use Rattle.rail.proofs.Answers.{answer-number, answer-place, answer-carries}
 use Rattle.line.specs.Line.{lineFrom}
 use Rattle.prepare.specs.LineOf.{lineOf}
 use Rattle.planner.specs.Buffers.{Buffers}
@@ -20,7 +19,7 @@ use Rattle.planner.specs.Plan.{planVerdict, Plan}
 use Rattle.planner.specs.Report.{reportVerdict}
 use Rattle.planner.proofs.Outcome.{outcome-number, outcome-place, refused-carries}
 use Rattle.reader.proofs.Stored.{read-one, read-number, read-place, read-trains, read-period}
-use Rattle.writer.proofs.Outcome.{write-one}
+use Rattle.writer.proofs.Outcome.{write-one, write-number, write-place, write-length}
 use Rattle.demands.proofs.Demands.{demand-2}
 use Rattle.oblachura.specs.AnswerNumbers.{answerNumbers}
 use Rattle.oblachura.specs.Calls.{PlanCall, Lent, ReportLeaves, ReportCall}
@@ -96,11 +95,7 @@ call-promises =
           call-returns _ _ (λ a g.
           (read-number g, λ k. read-number g k ∷ read-place g k ∷ read-trains g k ∷ read-period g k ∷ []));
       write-returns = λ G before list after stored r.
-          call-returns _ _ (λ a g.
-          let number = ap answerNumber (g .answer) ∙ answer-number _ _ in
-          let place = ap answerPlace (g .answer) ∙ answer-place _ _ in
-          let long = ap answerCarries (g .answer) ∙ answer-carries _ _ in
-          (number, λ k. number k ∷ place k ∷ long k ∷ []));
+          call-returns _ _ (λ a g. (write-number g, λ k. write-number g k ∷ write-place g k ∷ write-length g k ∷ []));
       plan-returns = λ s before list after stored r.
           call-returns _ _ (λ a g. outcome-tells _ _ _ _ a _ g (plan-brings s before after a g));
       report-returns = λ i v before list after stored r.

@@ -11,8 +11,10 @@ use Rattle.rail.specs.declared.Verdict.{Verdict}
 use Rattle.rail.specs.declared.Verdict.the-variants.{Fine, Refused}
 use Rattle.rail.specs.declared.Answer.{Answer}
 use Rattle.rail.specs.declared.Answer.the-variants.{Accepted, Refused as AnswerRefused}
-use Rattle.rail.specs.Answer.{answerOf}
+use Rattle.rail.specs.Verdict.{ifFine, numberIn, placeIn}
+use Rattle.rail.specs.Answer.{answerNumber, answerPlace, answerCarries, answerOf}
 use Rattle.rail.proofs.Checks.{refused-not-fine, fine-or-refused}
+use Rattle.rail.proofs.Answers.{answer-number, answer-place, answer-carries}
 use Rattle.sheet.specs.Format.{bytesOf}
 use Rattle.sheet.specs.Accepted.{SheetOf}
 use Rattle.sheet.proofs.Meaning.{sheet-of-one}
@@ -58,3 +60,18 @@ write-one G before after after′ a a′ g h =
           (λ refused. g .unchanged (refused .0) (refused .1) ∙ sym (h .unchanged (refused .0) (refused .1)))
           (fine-or-refused (writeVerdict (length before) G)),
     )
+
+-- ---- what the answer carries, in the paper's numbers
+
+module _ {G : Given} {before after : List ℕ} {a : Answer} (h : Write G before after a) where
+  abbrev checks : Verdict
+  checks = writeVerdict (length before) G
+
+  pub write-number : answerNumber a ≡ numberIn checks
+  write-number = ap answerNumber (h .answer) ∙ answer-number checks (bytesOf (G .trains))
+
+  pub write-place : answerPlace a ≡ placeIn checks
+  write-place = ap answerPlace (h .answer) ∙ answer-place checks (bytesOf (G .trains))
+
+  pub write-length : answerCarries a ≡ ifFine checks (bytesOf (G .trains)) 0
+  write-length = ap answerCarries (h .answer) ∙ answer-carries checks (bytesOf (G .trains))

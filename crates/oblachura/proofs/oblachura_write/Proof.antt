@@ -15,8 +15,8 @@ returns c = call-wrong-list (c .before .if1 .taken) (c .wrong-list .ensures)
 write-requires : tie.Need-write-requires
 write-requires c κs = search needs
 
-tell-writing-requires : tie.Need-tell-writing-requires
-tell-writing-requires c κs = search needs
+tell-answer-requires : tie.Need-tell-answer-requires
+tell-answer-requires c κs = search needs
 
 same-length : tie.Need-same-length
 same-length c = search needs
@@ -30,7 +30,7 @@ returns-2 c =
     let told = c .before .before in
     let done = told .before .before .before .before in
     let asked = done .before .before in
-    call-told (asked .if1 .left) (done .write .result) (done .write .ensures) (told .tell-writing .ensures)
+    call-told (asked .if1 .left) (done .write .result) (done .write .ensures) (told .tell-answer .ensures)
 
 pub oblachura-write-spec : {M : Type 1} → statement M
 oblachura-write-spec =
@@ -39,7 +39,7 @@ oblachura-write-spec =
     wrong-list-requires
     returns
     write-requires
-    tell-writing-requires
+    tell-answer-requires
     same-length
     same-length-2
     returns-2)

@@ -11,8 +11,8 @@ number-requires c κs = search needs
 place-requires : tie.Need-place-requires
 place-requires c κs = search needs
 
-total-requires : tie.Need-total-requires
-total-requires c κs = search needs
+carries-requires : tie.Need-carries-requires
+carries-requires c κs = search needs
 
 store-three-requires : tie.Need-store-three-requires
 store-three-requires c κs = search needs
@@ -24,7 +24,7 @@ same-length c = search needs
 returns : tie.Need-returns
 returns c =
     let called = c .before .before in
-    let total = called .before .total .ensures in
+    let total = called .before .carries .ensures in
     let place = called .before .before .before .place .ensures in
     let number = called .before .before .before .before .number .ensures in
     let stored = called .store-three .ensures in
@@ -36,7 +36,7 @@ tell-answer-spec =
     (tie.spec
     number-requires
     place-requires
-    total-requires
+    carries-requires
     store-three-requires
     same-length
     returns)
