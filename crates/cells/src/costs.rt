@@ -46,7 +46,8 @@ pub fn go_on(costs: &[u64], station: Station) -> u64
 // Stores all three of a station.
 fn put_costs(costs: &mut [u64], station: Station, excess: u64, keep: u64, go: u64)
     requires { ⌜ (1 ≤ station .0) × (station .0 ≤ 64) × (length (now costs) ≡ 192) ⌝ }
-    ensures { λ _. ⌜ now (costs .exit) ≡ withCosts (now (costs .entry)) (station .0) excess keep go ⌝ }
+    ensures { λ _. ⌜ now (costs .exit) ≡
+        withCosts (now (costs .entry)) (station .0) excess keep go ⌝ }
 {
     let k = station.index();
     costs[k] = excess;

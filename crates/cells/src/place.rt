@@ -17,7 +17,8 @@ pub fn place(m: u32, first: Train, at: Station) -> usize
 
 // What that cell holds; 0 at the last station, for which none is stored.
 pub fn cell_at(cells: &[u64], m: u32, first: Train, at: Station) -> u64
-    requires { ⌜ (1 ≤ first .0) × (first .0 ≤ at .0) × (m ≤ 64) × (length (now cells) ≡ cellCount) ⌝ }
+    requires { ⌜ (1 ≤ first .0) × (first .0 ≤ at .0) × (m ≤ 64) ×
+        (length (now cells) ≡ cellCount) ⌝ }
     ensures { λ r. ⌜ r ≡ tableOf m (now (cells .entry)) (first .0) (at .0) ⌝ }
 {
     if at.0 <= m {

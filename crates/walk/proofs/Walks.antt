@@ -12,7 +12,7 @@ use Rattle.lists.specs.Filled.{Filled}
 use Rattle.lists.proofs.Choice.{below-yes, below-no}
 use Rattle.lists.proofs.Fill.{filled-none, filled-next, filled-counted}
 use Rattle.line.specs.Policy.{Decision, Keep, Go, arrival}
-use Rattle.line.specs.Cells.{Table, Book, arrivalOn, keepCost, goCost, prefer, choice, under, begins, decide}
+use Rattle.line.specs.Cells.{Table, Book, arrivalOn, keepCost, goCost, choice, under, begins, decide}
 use Rattle.line.specs.Ranges.{latest}
 use Rattle.line.proofs.Along.{excess-on-start, arrival-on-departed}
 use Rattle.line.proofs.Bounds.{arrival-on-le}
@@ -20,12 +20,12 @@ use Rattle.line.proofs.Decided.{begins-next, begins-first, begins-le, policy-by
 use Rattle.cells.specs.Place.{tableOf}
 use Rattle.cells.specs.Timing.{sourceIn, runningIn}
 use Rattle.cells.specs.Book.{bookIn}
-use Rattle.cells.specs.Costs.{excessIn, keepIn, goIn, CostsAlong}
+use Rattle.cells.specs.Costs.{excessIn, CostsAlong}
 use Rattle.cells.specs.Shown.{byteOf, shown}
 use Rattle.cells.proofs.Along.{keep-le, go-le, kept-arrives}
 use Rattle.cells.proofs.Bounded.{running-in-range}
 use Rattle.walk.specs.Walked.{Walked}
-use Rattle.walk.specs.Following.{ChoiceGiven, StepGiven, Stepped, WalkGiven}
+use Rattle.walk.specs.Following.{chosenBy, ChoiceGiven, StepGiven, Stepped, WalkGiven}
 
 -- ---- one station's step
 
@@ -67,35 +67,34 @@ module _ (m k l : ℕ) (costs cells timing sums boarding : List ℕ)
       }
 
   -- the costs and the cells make the choice
-  chosen : prefer (excessIn costs l) (keepIn costs l + C k (l + 1)) (goIn costs l + C l l) ≡ choice B C k l
+  chosen : chosenBy costs C k l ≡ choice B C k l
   unfolding choice keepCost goCost
   chosen =
       let here = given .along .each l (omega arith) (given .last) in
       rw (here .excess, here .keep, here .go)
 
-  module _ (d : ℕ) (shows : d ≡ byteOf (prefer (excessIn costs l) (keepIn costs l + C k (l + 1)) (goIn costs l + C l l)))
-    where
-      shown-choice : d ≡ byteOf (choice B C k l)
-      shown-choice = shows ∙ ap byteOf chosen
+  module _ (d : ℕ) (shows : d ≡ byteOf (chosenBy costs C k l)) where
+    shown-choice : d ≡ byteOf (choice B C k l)
+    shown-choice = shows ∙ ap byteOf chosen
 
-      -- under keep the run goes on
-      pub stepped-keep : d ≡ 1 → Stepped B C k l d k (excessIn costs l + sourceIn timing l) costs
-      stepped-keep one =
-          let keeps = byte-keep (choice B C k l) (sym shown-choice ∙ one) in
-          record {
-            byte = shown-choice;
-            first = rw keeps;
-            late = kept-arrives m k timing sums costs (given .given) (given .first) (given .along) l (omega arith)
-                (given .last);
-            along = given .along;
-          }
+    -- under keep the run goes on
+    pub stepped-keep : d ≡ 1 → Stepped B C k l d k (excessIn costs l + sourceIn timing l) costs
+    stepped-keep one =
+        let keeps = byte-keep (choice B C k l) (sym shown-choice ∙ one) in
+        record {
+          byte = shown-choice;
+          first = rw keeps;
+          late = kept-arrives m k timing sums costs (given .given) (given .first) (given .along) l (omega arith)
+              (given .last);
+          along = given .along;
+        }
 
-      -- under go train l begins one, on time
-      pub stepped-go : ¬ (d ≡ 1) → (after : List ℕ) → CostsAlong B l after
-          → Stepped B C k l d l (0 + sourceIn timing l) after
-      stepped-go not after A =
-          let goes = byte-go (choice B C k l) (λ one. not (shown-choice ∙ one)) in
-          record { byte = shown-choice; first = rw goes; late = begun timing l (omega arith); along = A }
+    -- under go train l begins one, on time
+    pub stepped-go : ¬ (d ≡ 1) → (after : List ℕ) → CostsAlong B l after
+        → Stepped B C k l d l (0 + sourceIn timing l) after
+    stepped-go not after A =
+        let goes = byte-go (choice B C k l) (λ one. not (shown-choice ∙ one)) in
+        record { byte = shown-choice; first = rw goes; late = begun timing l (omega arith); along = A }
 
 -- ---- the walk
 

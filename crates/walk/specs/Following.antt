@@ -1,19 +1,24 @@
 -- What the steps of the walk need and leave. Document 01, "Four operations", report: comparing the two choices.
---   ChoiceGiven          what comparing them at station l on the run from k needs
+--   chosenBy             the choice at station l on the run from k, by the costs of that run and the cells
+--   ChoiceGiven          what comparing them there needs
 --   StepGiven, Stepped   one station
 --   WalkGiven            the whole walk; what it leaves is Walked
 -- Assumes nothing.
-use Prim.Native.Nat.{ℕ, _≤_, _<_}
+use Prim.Native.Nat.{ℕ, _+_, _≤_, _<_}
 use mathlib.Core.Path.{_≡_}
 use mathlib.Core.List.{List}
 use lib.ListN.{length}
-use Rattle.line.specs.Cells.{Table, Book, arrivalOn, choice, under}
+use Rattle.line.specs.Policy.{Decision}
+use Rattle.line.specs.Cells.{Table, Book, arrivalOn, prefer, choice, under}
 use Rattle.line.specs.Ranges.{limit}
 use Rattle.cells.specs.Place.{cellCount}
 use Rattle.cells.specs.Sums.{Boarders}
 use Rattle.cells.specs.Book.{bookIn, BookGiven, CellsInRange}
-use Rattle.cells.specs.Costs.{keepIn, goIn, CostsAlong}
+use Rattle.cells.specs.Costs.{excessIn, keepIn, goIn, CostsAlong}
 use Rattle.cells.specs.Shown.{byteOf}
+
+abbrev pub chosenBy : List ℕ → Table → ℕ → ℕ → Decision
+chosenBy costs c k l = prefer (excessIn costs l) (keepIn costs l + c k (l + 1)) (goIn costs l + c l l)
 
 -- costs and cells that can be added
 pub record ChoiceGiven (m k l : ℕ) (costs cells : List ℕ) : Type 0 where
@@ -38,7 +43,7 @@ pub record StepGiven (m k l : ℕ) (costs cells timing sums boarding : List ℕ)
   pub long : length cells ≡ cellCount
   pub range : CellsInRange m cells
 
--- what the station decides, the train that the run then begins with, how late train l arrives, and the costs of that run
+-- what the station decides, the train that the run then begins with, how late train l arrives, the costs of that run
 pub record Stepped (B : Book) (c : Table) (k l shows begins arrives : ℕ) (costs : List ℕ) : Type 0 where
   pub byte : shows ≡ byteOf (choice B c k l)
   pub first : begins ≡ under (choice B c k l) k l

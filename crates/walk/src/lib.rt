@@ -1,13 +1,11 @@
 // Decisions and arrival delays read off cells as they stand, train by train.
 ghost use mathlib.Core.Path.{_≡_};
-ghost use Prim.Native.Nat.{_+_};
 ghost use Rattle.line.specs.Cells.{prefer};
 ghost use Rattle.cells.specs.Place.{tableOf};
 ghost use Rattle.cells.specs.Book.{bookIn};
-ghost use Rattle.cells.specs.Costs.{excessIn, keepIn, goIn};
 ghost use Rattle.cells.specs.Shown.{byteOf};
 ghost use Rattle.walk.specs.Walked.{Walked};
-ghost use Rattle.walk.specs.Following.{ChoiceGiven, StepGiven, Stepped, WalkGiven};
+ghost use Rattle.walk.specs.Following.{chosenBy, ChoiceGiven, StepGiven, Stepped, WalkGiven};
 use cells::costs::costs_along;
 use cells::costs::excess_on;
 use cells::costs::go_on;
@@ -36,11 +34,8 @@ fn prefer(excess: u64, keep: u64, go: u64) -> u8
 // The choice at the station that `train` leaves, on the run from `first`, whose costs these are.
 fn choose(costs: &[u64], cells: &[u64], m: u32, first: Train, train: Train) -> u8
     requires { ⌜ ChoiceGiven m (first .0) (train .0) (now costs) (now cells) ⌝ }
-    ensures { λ r. ⌜ r ≡ byteOf (prefer (excessIn (now (costs .entry)) (train .0))
-        (keepIn (now (costs .entry)) (train .0)
-        + tableOf m (now (cells .entry)) (first .0) (train .0 + 1))
-        (goIn (now (costs .entry)) (train .0)
-        + tableOf m (now (cells .entry)) (train .0) (train .0))) ⌝ }
+    ensures { λ r. ⌜ r ≡ byteOf (chosenBy (now (costs .entry)) (tableOf m (now (cells .entry)))
+        (first .0) (train .0)) ⌝ }
 {
     let station = train.leaves();
     let keep = keep_on(costs, station) + cell_at(cells, m, first, train.reaches());

@@ -1,8 +1,8 @@
 -- `fill_row` meets its contract. Invariant: the cells from j on are filled. Measure: j.
 -- Assumes nothing.
 use borrow.Author.Needs.{needs}
-use mathlib.Core.Path.{_≡_, refl, ap, _∙_}
-use Prim.Native.Nat.{ℕ, _+_, _-_, _≤_, _<_}
+use mathlib.Core.Path.{_≡_, refl}
+use Prim.Native.Nat.{_+_, _-_, _≤_}
 use native.Mathlib.Omega.{arith}
 use lib.ListN.{length, getD}
 use Rattle.lists.specs.Run.{nth}
@@ -66,7 +66,8 @@ loop-again c =
     let turn = kept .before .before in
     let corner = corner (c .before .before .before) in
     filled-back _ _ _ _ _ _ _ _ (turn .before .loop .inv) (turn .loop-test .taken)
-    (rw (c .before .excess-on .ensures, kept .keep-on .ensures, gone .go-on .ensures, corner) at (c .lesser .ensures .0))
+    (rw (c .before .excess-on .ensures, kept .keep-on .ensures, gone .go-on .ensures, corner) at
+    (c .lesser .ensures .0))
     (omega (arith, c .lesser .ensures .1, kept .keep-on .ensures)) (small turn .2)
 
 -- no cell is left

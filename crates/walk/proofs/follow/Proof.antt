@@ -19,11 +19,11 @@ Inv-loop decisions₀ delays₀ costs₀ cells m timing sums boarding first₀ l
 abbrev μ-loop : tie.MeasureT-loop
 μ-loop decisions₀ delays₀ costs₀ cells m timing sums boarding first₀ late i₀ decisions delays costs first i = m + 1 - i
 
-abbrev blank-of : tie.After-arrives Inv-loop μ-loop → tie.After-fill-u8 Inv-loop μ-loop
-blank-of c = c .before .before .before .before .before .before .before .before .before .before .before
+abbrev blank-of : tie.After-arrives Inv-loop μ-loop → tie.After-fill-u32 Inv-loop μ-loop
+blank-of c = c .before .before .before .before .before .before .before
 
 abbrev start-of : tie.After-arrives Inv-loop μ-loop → tie.Start Inv-loop μ-loop
-start-of c = blank-of c .before .before .before .before .before .before .before .before .before
+start-of c = blank-of c .before .before .before .before .before .before .before .before .before .before .before .before .before
 
 -- the source delay of train 1 is at most 1,440
 cast-delays : tie.Need-cast-delays Inv-loop μ-loop
@@ -37,8 +37,8 @@ loop-holds c =
     let arrived = c .before in
     let start = start-of arrived .pre in
     let given = start .given in
-    let decisions = blank-of arrived .fill-u8 .ensures ∙ ap (λ (n : ℕ). replicate n 0) (start .long-decisions) in
-    let delays = arrived .before .before .before .before .before .before .before .fill-u32 .ensures ∙ ap (λ (n : ℕ). replicate n 0) (start .long-delays) in
+    let decisions = rw (start .long-decisions) at (blank-of arrived .before .before .before .before .fill-u8 .ensures) in
+    let delays = rw (start .long-delays) at (blank-of arrived .fill-u32 .ensures) in
     walk-start _ _ _ _ _ _ _ decisions delays (c .index .ensures) (given .times .trains) (given .some)
     (arrived .arrives .ensures ∙ begun _ 1 (omega arith)) (arrived .before .before .before .costs-along .ensures)
 
@@ -46,7 +46,8 @@ loop-holds c =
 decide-at-requires : tie.Need-decide-at-requires Inv-loop μ-loop
 decide-at-requires c κs =
     let turn = c .before in
-    walk-asks _ _ _ _ _ _ _ _ (start-of (turn .before .before .before) .pre) _ _ _ _ _ (turn .before .loop .inv) (turn .loop-test .taken)
+    walk-asks _ _ _ _ _ _ _ _ (start-of (turn .before .before .before) .pre) _ _ _ _ _ (turn .before .loop .inv)
+    (turn .loop-test .taken)
 
 -- no train arrives later than `latest`
 cast-delays-2 : tie.Need-cast-delays-2 Inv-loop μ-loop

@@ -2,12 +2,12 @@
 -- Measure: the trains left.
 -- Assumes nothing.
 use borrow.Author.Needs.{needs}
-use mathlib.Core.Path.{_≡_, ap, sym, _∙_}
-use Prim.Native.Nat.{ℕ, _+_, _-_, _*_, _≤_}
+use mathlib.Core.Path.{_≡_, sym, _∙_}
+use Prim.Native.Nat.{_+_, _-_, _≤_}
 use native.Mathlib.Omega.{arith}
 use lib.ListN.{getD}
 use Rattle.lists.proofs.Held.{nth-index}
-use Rattle.line.specs.Ranges.{latest, everyone}
+use Rattle.line.specs.Ranges.{everyone}
 use Rattle.cells.specs.Timing.{slackIn, periodIn}
 use Rattle.cells.specs.Sums.{boardedIn}
 use Rattle.cells.proofs.Along.{CostsTo, costs-start, costs-next, costs-end, turn-late, turn-boards, turn-leaves}
@@ -88,8 +88,8 @@ sub-left : tie.Need-sub-left Inv-loop μ-loop
 sub-left c =
     let costed = c .before .before .before .before .before .before .before .before in
     let turn = station-of costed .before in
-    let parts = turn-leaves _ _ _ _ (start-of turn .pre .0) _ _ _ _ (turn .before .loop .inv) (turn .loop-test .taken) in
-    omega (arith, costed .before .leaving .ensures .0)
+    let parts = turn-leaves _ _ _ _ (start-of turn .pre .0) _ _ _ _ (turn .before .loop .inv) in
+    omega (arith, costed .before .leaving .ensures .0, parts (turn .loop-test .taken))
 
 -- one station more
 loop-again : tie.Need-loop-again Inv-loop μ-loop

@@ -10,4 +10,11 @@ unfolding goIn
 returns c = cc
 
 pub go-on-spec : {M : Type 1} → statement M
-go-on-spec = tie.close (tie.spec (λ c κs. search needs) (λ c. search needs) (λ c. search needs) (λ c. search needs) returns)
+go-on-spec =
+    tie.close
+    (tie.spec
+    (λ c κs. search needs)
+    (λ c. search needs)
+    (λ c. search needs)
+    (λ c. search needs)
+    returns)

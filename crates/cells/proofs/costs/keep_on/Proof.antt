@@ -10,4 +10,11 @@ unfolding keepIn
 returns c = cc
 
 pub keep-on-spec : {M : Type 1} → statement M
-keep-on-spec = tie.close (tie.spec (λ c κs. search needs) (λ c. search needs) (λ c. search needs) (λ c. search needs) returns)
+keep-on-spec =
+    tie.close
+    (tie.spec
+    (λ c κs. search needs)
+    (λ c. search needs)
+    (λ c. search needs)
+    (λ c. search needs)
+    returns)

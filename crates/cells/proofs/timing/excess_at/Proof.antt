@@ -19,4 +19,11 @@ returns-2 : tie.Need-returns-2
 returns-2 c = let e = slack-here (c .before) in omega arith
 
 pub excess-at-spec : {M : Type 1} → statement M
-excess-at-spec = tie.close (tie.spec (λ c κs. search needs) (λ c κs. search needs) (λ c. search needs) returns returns-2)
+excess-at-spec =
+    tie.close
+    (tie.spec
+    (λ c κs. search needs)
+    (λ c κs. search needs)
+    (λ c. search needs)
+    returns
+    returns-2)

@@ -8,4 +8,11 @@ returns : tie.Need-returns
 returns c = cc
 
 pub set-slack-spec : {M : Type 1} → statement M
-set-slack-spec = tie.close (tie.spec (λ c κs. search needs) (λ c. search needs) (λ c. search needs) (λ c. search needs) returns)
+set-slack-spec =
+    tie.close
+    (tie.spec
+    (λ c κs. search needs)
+    (λ c. search needs)
+    (λ c. search needs)
+    (λ c. search needs)
+    returns)

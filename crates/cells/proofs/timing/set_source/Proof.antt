@@ -8,4 +8,12 @@ returns : tie.Need-returns
 returns c = cc
 
 pub set-source-spec : {M : Type 1} → statement M
-set-source-spec = tie.close (tie.spec (λ c κs. search needs) (λ c. search needs) (λ c. search needs) (λ c. search needs) (λ c. search needs) returns)
+set-source-spec =
+    tie.close
+    (tie.spec
+    (λ c κs. search needs)
+    (λ c. search needs)
+    (λ c. search needs)
+    (λ c. search needs)
+    (λ c. search needs)
+    returns)
