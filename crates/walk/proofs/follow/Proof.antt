@@ -2,10 +2,9 @@
 -- that begins with `first`. Measure: the stations left.
 -- Assumes nothing.
 use borrow.Author.Needs.{needs}
-use mathlib.Core.Path.{ap, _∙_}
-use Prim.Native.Nat.{ℕ, _+_, _-_}
+use mathlib.Core.Path.{_∙_}
+use Prim.Native.Nat.{_+_, _-_}
 use native.Mathlib.Omega.{arith}
-use lib.ListN.{replicate}
 use Rattle.cells.specs.Place.{tableOf}
 use Rattle.cells.specs.Book.{bookIn}
 use Rattle.walk.proofs.Walks.{Walking, walk-start, walk-asks, walk-late, walk-next, walk-end, begun}
@@ -19,11 +18,11 @@ Inv-loop decisions₀ delays₀ costs₀ cells m timing sums boarding first₀ l
 abbrev μ-loop : tie.MeasureT-loop
 μ-loop decisions₀ delays₀ costs₀ cells m timing sums boarding first₀ late i₀ decisions delays costs first i = m + 1 - i
 
-abbrev blank-of : tie.After-arrives Inv-loop μ-loop → tie.After-fill-u32 Inv-loop μ-loop
-blank-of c = c .before .before .before .before .before .before .before
+abbrev blank-of : tie.After-arrives Inv-loop μ-loop → tie.After-fill-u8 Inv-loop μ-loop
+blank-of c = c .before .before .before .before .before .before .before .before .before .before .before
 
 abbrev start-of : tie.After-arrives Inv-loop μ-loop → tie.Start Inv-loop μ-loop
-start-of c = blank-of c .before .before .before .before .before .before .before .before .before .before .before .before .before
+start-of c = blank-of c .before .before .before .before .before .before .before .before .before
 
 -- the source delay of train 1 is at most 1,440
 cast-delays : tie.Need-cast-delays Inv-loop μ-loop
@@ -36,11 +35,12 @@ loop-holds : tie.Need-loop-holds Inv-loop μ-loop
 loop-holds c =
     let arrived = c .before in
     let start = start-of arrived .pre in
+    let ran = arrived .before .before .before in
     let given = start .given in
-    let decisions = rw (start .long-decisions) at (blank-of arrived .before .before .before .before .fill-u8 .ensures) in
-    let delays = rw (start .long-delays) at (blank-of arrived .fill-u32 .ensures) in
+    let decisions = rw (start .long-decisions) at (blank-of arrived .fill-u8 .ensures) in
+    let delays = rw (start .long-delays) at (ran .before .before .before .before .fill-u32 .ensures) in
     walk-start _ _ _ _ _ _ _ decisions delays (c .index .ensures) (given .times .trains) (given .some)
-    (arrived .arrives .ensures ∙ begun _ 1 (omega arith)) (arrived .before .before .before .costs-along .ensures)
+    (arrived .arrives .ensures ∙ begun _ 1 (omega arith)) (ran .costs-along .ensures)
 
 -- the walk stands at station i
 decide-at-requires : tie.Need-decide-at-requires Inv-loop μ-loop
