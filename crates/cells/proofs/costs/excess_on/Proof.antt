@@ -7,7 +7,7 @@ use Rattle.cells.proofs.costs.excess_on.Tie as tie
 
 returns : tie.Need-returns
 unfolding excessIn
-returns c = cc
+returns c = rw (c .before .index .ensures)
 
 pub excess-on-spec : {M : Type 1} → statement M
 excess-on-spec = tie.close (tie.spec (λ c κs. search needs) (λ c. search needs) (λ c. search needs) returns)

@@ -7,7 +7,7 @@ use Rattle.cells.proofs.costs.go_on.Tie as tie
 
 returns : tie.Need-returns
 unfolding goIn
-returns c = cc
+returns c = rw (c .before .index .ensures)
 
 pub go-on-spec : {M : Type 1} → statement M
 go-on-spec =

@@ -7,7 +7,7 @@ use Rattle.cells.proofs.costs.keep_on.Tie as tie
 
 returns : tie.Need-returns
 unfolding keepIn
-returns c = cc
+returns c = rw (c .before .index .ensures)
 
 pub keep-on-spec : {M : Type 1} → statement M
 keep-on-spec =

@@ -13,7 +13,7 @@ slice-write-costs-3 : tie.Need-slice-write-costs-3
 slice-write-costs-3 c = simp length-set (omega arith)
 
 returns : tie.Need-returns
-returns c = cc
+returns c = rw (c .index .ensures)
 
 pub put-costs-spec : {M : Type 1} → statement M
 put-costs-spec =

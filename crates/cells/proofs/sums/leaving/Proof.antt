@@ -14,7 +14,7 @@ returns c =
     let p = start .pre in
     let most = leaving-le _ _ (p .0) _ _ (p .1) (p .2) (p .3) in
     let held : c .wide .result ≡ leavingIn (start .args .sums .now) (start .args .from .0) (start .args .train .0) =
-    unfold leavingIn in cc in
+    unfold leavingIn in rw (c .wide .ensures, c .before .place-of-sum .ensures .0) in
     (held, omega arith)
 
 pub leaving-spec : {M : Type 1} → statement M

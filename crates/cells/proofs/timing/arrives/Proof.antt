@@ -12,7 +12,7 @@ add-result c = omega (arith, c .before .before .shared-slice-known .given (64 + 
 
 returns : tie.Need-returns
 unfolding sourceIn
-returns c = cc
+returns c = rw (c .wide .ensures, c .before .index .ensures)
 
 pub arrives-spec : {M : Type 1} → statement M
 arrives-spec = tie.close (tie.spec (λ c κs. search needs) (λ c. search needs) (λ c κs. search needs) add-result returns)

@@ -10,7 +10,7 @@ use Rattle.cells.proofs.timing.excess_at.Tie as tie
 slack-here : (c : tie.After-wide) →
     let start = c .before .before .before .args in c .wide .result ≡ slackIn (start .timing .now) (start .station .0)
 unfolding slackIn
-slack-here c = cc
+slack-here c = rw (c .wide .ensures, c .before .index .ensures)
 
 returns : tie.Need-returns
 returns c = let e = slack-here (c .before) in omega arith

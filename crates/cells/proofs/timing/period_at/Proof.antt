@@ -7,7 +7,7 @@ use Rattle.cells.proofs.timing.period_at.Tie as tie
 
 returns : tie.Need-returns
 unfolding periodIn
-returns c = cc
+returns c = rw (c .wide .ensures, c .before .index .ensures)
 
 pub period-at-spec : {M : Type 1} → statement M
 period-at-spec = tie.close (tie.spec (λ c κs. search needs) (λ c. search needs) (λ c κs. search needs) returns)

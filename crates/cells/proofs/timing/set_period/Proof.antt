@@ -5,7 +5,7 @@ use Rattle.cells.proofs.timing.set_period.Statement.{statement}
 use Rattle.cells.proofs.timing.set_period.Tie as tie
 
 returns : tie.Need-returns
-returns c = cc
+returns c = rw (c .index .ensures)
 
 pub set-period-spec : {M : Type 1} → statement M
 set-period-spec =

@@ -5,7 +5,7 @@ use Rattle.cells.proofs.timing.set_slack.Statement.{statement}
 use Rattle.cells.proofs.timing.set_slack.Tie as tie
 
 returns : tie.Need-returns
-returns c = cc
+returns c = rw (c .index .ensures)
 
 pub set-slack-spec : {M : Type 1} → statement M
 set-slack-spec =

@@ -5,7 +5,7 @@ use Rattle.cells.proofs.timing.set_source.Statement.{statement}
 use Rattle.cells.proofs.timing.set_source.Tie as tie
 
 returns : tie.Need-returns
-returns c = cc
+returns c = rw (c .index .ensures)
 
 pub set-source-spec : {M : Type 1} → statement M
 set-source-spec =
