@@ -1,6 +1,6 @@
 -- What the two choices cost along the run from train k, station by station, and how much it can be.
---   CostsTo m k timing sums costs late left i   the stations from k to i - 1 are done, train i - 1 having arrived late
---     by `late`; `left` are those who board at k or later and leave train i or a later one
+--   CostsTo m k timing sums costs late boarded i   the stations from k to i - 1 are done: train i - 1 arrived late by
+--     `late`, and `boarded` are those who board at k or later and leave train i or a later one
 -- Assumes nothing.
 use mathlib.Core.Path.{_≡_, ap, sym, _∙_}
 use mathlib.Core.List.{List}
@@ -32,6 +32,7 @@ module _ (costs : List ℕ) (i x y z : ℕ) (long : length costs ≡ 192) (least
   abbrev two : List ℕ
   two = set (set costs (i - 1) x) (64 + (i - 1)) y
 
+  -- they are read there
   put-at : (B : Book) (k : ℕ) → x ≡ excessOn (B .running) k i → y ≡ B .leaving k i * arrivalOn (B .running) k i
       → z ≡ B .period i * B .aboard k i → CostsAt B k i (withCosts costs i x y z)
   unfolding excessIn keepIn goIn
@@ -73,7 +74,7 @@ module _ (m k : ℕ) (timing sums : List ℕ) where
   abbrev B : Book
   B = bookIn m timing sums
 
-  pub record CostsTo (costs : List ℕ) (late left i : ℕ) : Type 0 where
+  pub record CostsTo (costs : List ℕ) (late boarded i : ℕ) : Type 0 where
     pub few : m ≤ 64
     pub first : 1 ≤ k
     pub from : k ≤ i
@@ -82,13 +83,13 @@ module _ (m k : ℕ) (timing sums : List ℕ) where
     -- what the slack at station i leaves of the delay is the excess there
     pub ahead : late - slackIn timing i ≡ excessOn R k i
     pub small : late ≤ latest
-    pub aboard : left ≡ boardedIn m sums k i
+    pub counted : boarded ≡ boardedIn m sums k i
     pub done : (l : ℕ) → k ≤ l → l < i → CostsAt B k l costs
 
   -- the run begins on time
-  pub costs-start : (costs : List ℕ) (left : ℕ) → BookGiven m timing sums → 1 ≤ k → k ≤ m → length costs ≡ 192
-      → left ≡ boardedIn m sums k k → CostsTo costs 0 left k
-  costs-start costs left given first last long e =
+  pub costs-start : (costs : List ℕ) (boarded : ℕ) → BookGiven m timing sums → 1 ≤ k → k ≤ m → length costs ≡ 192
+      → boarded ≡ boardedIn m sums k k → CostsTo costs 0 boarded k
+  costs-start costs boarded given first last long e =
       record {
         few = given .times .trains;
         first = first;
@@ -97,11 +98,11 @@ module _ (m k : ℕ) (timing sums : List ℕ) where
         long = long;
         ahead = omega (arith, excess-on-start R k k (le-refl k));
         small = omega arith;
-        aboard = e;
+        counted = e;
         done = λ l a b. absurd (omega arith);
       }
 
-  module _ (given : BookGiven m timing sums) (costs : List ℕ) (late left i : ℕ) (S : CostsTo costs late left i)
+  module _ (given : BookGiven m timing sums) (costs : List ℕ) (late boarded i : ℕ) (S : CostsTo costs late boarded i)
       (last : i ≤ m) where
     turn-arrives : late - slackIn timing i + sourceIn timing i ≡ arrivalOn R k i
     turn-arrives =
@@ -113,26 +114,26 @@ module _ (m k : ℕ) (timing sums : List ℕ) where
     turn-late =
         le-trans (le-of-eq turn-arrives) (arrival-on-le m R (running-in-range m timing (given .times)) k i last)
 
-    -- of those who are left, at most everyone, some are aboard at station i and the others board there or later
-    pub turn-boards : (left ≡ aboardIn m sums k i + boardedIn m sums i i) × (left ≤ everyone)
+    -- of these, at most everyone, some are aboard at station i and the others board there or later
+    pub turn-boards : (boarded ≡ aboardIn m sums k i + boardedIn m sums i i) × (boarded ≤ everyone)
     turn-boards = (
-      S .aboard ∙ boarded-aboard m sums (given .leavers) k i (S .first) (S .from) last,
-      le-trans (le-of-eq (S .aboard)) (boarded-le m sums (given .leavers) k i (S .first) (S .from) last),
+      S .counted ∙ boarded-aboard m sums (given .leavers) k i (S .first) (S .from) last,
+      le-trans (le-of-eq (S .counted)) (boarded-le m sums (given .leavers) k i (S .first) (S .from) last),
     )
 
     -- some leave train i, the others a later one
-    pub turn-leaves : left ≡ leavingIn sums k i + boardedIn m sums k (i + 1)
-    turn-leaves = S .aboard ∙ boarded-first m sums k i last
+    pub turn-leaves : boarded ≡ leavingIn sums k i + boardedIn m sums k (i + 1)
+    turn-leaves = S .counted ∙ boarded-first m sums k i last
 
     -- one station more
     pub costs-next : (x a n b t y z : ℕ) → x ≡ late - slackIn timing i → a ≡ x + sourceIn timing i
-        → n ≡ leavingIn sums k i → b ≡ boardedIn m sums i i → t ≡ periodIn timing i → y ≡ n * a → z ≡ (left - b) * t
-        → CostsTo (withCosts costs i x y z) a (left - n) (i + 1)
+        → n ≡ leavingIn sums k i → b ≡ boardedIn m sums i i → t ≡ periodIn timing i → y ≡ n * a → z ≡ (boarded - b) * t
+        → CostsTo (withCosts costs i x y z) a (boarded - n) (i + 1)
     costs-next x a n b t y z ex ea en eb et ey ez =
         let pos : 1 ≤ i = omega (arith, S .first, S .from) in
         let most : i ≤ 64 = omega (arith, S .few) in
         let late-is : a ≡ arrivalOn R k i = ea ∙ ap (λ (e : ℕ). e + sourceIn timing i) ex ∙ turn-arrives in
-        let aboard-is : left - b ≡ aboardIn m sums k i = omega (arith, turn-boards .0) in
+        let aboard-is : boarded - b ≡ aboardIn m sums k i = omega (arith, turn-boards .0) in
         record {
           few = S .few;
           first = S .first;
@@ -141,7 +142,7 @@ module _ (m k : ℕ) (timing sums : List ℕ) where
           long = simp length-set (S .long);
           ahead = ap (λ (d : ℕ). d - slackIn timing (i + 1)) late-is ∙ sym (excess-on-next R k i (S .from));
           small = rw (ea, ex) turn-late;
-          aboard = omega (arith, turn-leaves);
+          counted = omega (arith, turn-leaves);
           done = λ l u v. elim (same-or-not l i) [
             | inl same ↦ rw same (put-at costs i x y z (S .long) pos most B k (ex ∙ S .ahead)
                 (rw (ey, en, late-is)) (rw (ez, aboard-is, et) (mul-comm _ _)))
@@ -151,8 +152,8 @@ module _ (m k : ℕ) (timing sums : List ℕ) where
         }
 
   -- no station is left
-  pub costs-end : (costs : List ℕ) (late left i : ℕ) → CostsTo costs late left i → m < i → CostsAlong B k costs
-  costs-end costs late left i S past =
+  pub costs-end : (costs : List ℕ) (late boarded i : ℕ) → CostsTo costs late boarded i → m < i → CostsAlong B k costs
+  costs-end costs late boarded i S past =
       record { long = S .long; each = λ l a b. S .done l a (omega arith) }
 
 -- ---- how much it is

@@ -2,9 +2,9 @@
 -- 64 places for the excess at each station, 64 for what keep costs, 64 for what go costs. Rows and walk both read it.
 -- Document 01, "The working cells". Stations count from 1.
 --   excessIn costs l, keepIn costs l, goIn costs l     what stands there for station l
---   withCosts costs l x y z      the list with x, y and z stored there
---   CostsAt B k l costs     the list holds them at station l for the run from k of the book B
---   CostsAlong B k costs    and at every station from k on
+--   withCosts costs l x y z     the list with x, y and z stored there
+--   CostsAt B k l costs         the list holds them at station l for the run from k of the book B
+--   CostsAlong B k costs        and at every station from k on
 -- Assumes nothing.
 use Prim.Native.Nat.{ℕ, _+_, _-_, _*_, _≤_}
 use mathlib.Core.Path.{_≡_}
@@ -21,7 +21,6 @@ keepIn costs l = getD costs (64 + (l - 1)) 0
 unfoldable pub goIn : List ℕ → ℕ → ℕ
 goIn costs l = getD costs (128 + (l - 1)) 0
 
--- with the three of station l stored
 abbrev pub withCosts : List ℕ → ℕ → ℕ → ℕ → ℕ → List ℕ
 withCosts costs l excess keep go = set (set (set costs (l - 1) excess) (64 + (l - 1)) keep) (128 + (l - 1)) go
 

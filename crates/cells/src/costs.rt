@@ -55,9 +55,9 @@ fn put_costs(costs: &mut [u64], station: Station, excess: u64, keep: u64, go: u6
     costs[GOES + k] = go;
 }
 
-// Fills the list for the run that begins with `first` on time. `left` are those who board where it
-// begins or later and leave this train or a later one: those who board at this station or later
-// aside, they are aboard here.
+// Fills the list for the run that begins with `first` on time. `boarded` are those who board where
+// it begins or later and leave this train or a later one: but for those who board here or later,
+// they are aboard.
 pub fn costs_along(
     costs: &mut [u64],
     first: Train,
@@ -73,7 +73,7 @@ pub fn costs_along(
 {
     let from = first.leaves();
     let mut late: u64 = 0;
-    let mut left = boarding[from.index()];
+    let mut boarded = boarding[from.index()];
     let mut i = first.0;
     while i <= m {
         let train = Train(i);
@@ -82,9 +82,12 @@ pub fn costs_along(
         late = arrives(timing, train, excess);
         let leave = leaving(sums, m, from, train);
         let keep = cost(leave, late);
-        let go = cost(left - boarding[station.index()], period_at(timing, station));
+        let go = cost(
+            boarded - boarding[station.index()],
+            period_at(timing, station),
+        );
         put_costs(costs, station, excess, keep, go);
-        left -= leave;
+        boarded -= leave;
         i += 1;
     }
 }

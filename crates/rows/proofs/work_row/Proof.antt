@@ -85,21 +85,6 @@ returns c =
 pub work-row-spec : {M : Type 1} → statement M
 work-row-spec =
     tie.close
-    (tie.spec
-    (λ c κs. search needs)
-    (λ c κs. search needs)
-    (λ c κs. search needs)
-    (λ c. search needs)
-    (λ c. search needs)
-    (λ c. search needs)
-    add-b-2
-    mul-fill-row
-    (λ c. search needs)
-    (λ c. search needs)
-    part-fill-row-end
-    fill-row-requires
-    mul-result
-    slice-read-result
-    (λ c. search needs)
-    (λ c. search needs)
-    returns)
+    (tie.spec (λ c κs. search needs) (λ c κs. search needs) (λ c κs. search needs) (λ c. search needs)
+    (λ c. search needs) (λ c. search needs) add-b-2 mul-fill-row (λ c. search needs) (λ c. search needs)
+    part-fill-row-end fill-row-requires mul-result slice-read-result (λ c. search needs) (λ c. search needs) returns)

@@ -79,21 +79,6 @@ returns c = worked-end _ _ _ _ _ _ (c .before .loop .inv .0) (omega arith)
 pub work-rows-spec : {M : Type 1} → statement M
 work-rows-spec =
     tie.close
-    (tie.spec
-    Inv-loop
-    μ-loop
-    (λ c. search needs)
-    (λ c κs. search needs)
-    loop-holds
-    (λ c. search needs)
-    work-row-requires
-    (λ c κs. search needs)
-    (λ c κs. search needs)
-    (λ c. search needs)
-    array-write-diagonal
-    (λ c. search needs)
-    (λ c. search needs)
-    loop-again
-    (λ c. search needs)
-    (λ c. search needs)
-    returns)
+    (tie.spec Inv-loop μ-loop (λ c. search needs) (λ c κs. search needs) loop-holds (λ c. search needs)
+    work-row-requires (λ c κs. search needs) (λ c κs. search needs) (λ c. search needs) array-write-diagonal
+    (λ c. search needs) (λ c. search needs) loop-again (λ c. search needs) (λ c. search needs) returns)

@@ -39,15 +39,5 @@ returns c =
 pub choose-spec : {M : Type 1} → statement M
 choose-spec =
     tie.close
-    (tie.spec
-    (λ c κs. search needs)
-    (λ c κs. search needs)
-    (λ c κs. search needs)
-    (λ c κs. search needs)
-    add-keep
-    (λ c κs. search needs)
-    (λ c κs. search needs)
-    add-go
-    (λ c κs. search needs)
-    (λ c κs. search needs)
-    returns)
+    (tie.spec (λ c κs. search needs) (λ c κs. search needs) (λ c κs. search needs) (λ c κs. search needs) add-keep
+    (λ c κs. search needs) (λ c κs. search needs) add-go (λ c κs. search needs) (λ c κs. search needs) returns)

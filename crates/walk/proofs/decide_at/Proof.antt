@@ -52,14 +52,5 @@ returns-2 c =
 pub decide-at-spec : {M : Type 1} → statement M
 decide-at-spec =
     tie.close
-    (tie.spec
-    choose-requires
-    (λ c κs. search needs)
-    (λ c κs. search needs)
-    arrives-requires
-    (λ c. search needs)
-    returns
-    (λ c κs. search needs)
-    (λ c κs. search needs)
-    (λ c. search needs)
-    returns-2)
+    (tie.spec choose-requires (λ c κs. search needs) (λ c κs. search needs) arrives-requires (λ c. search needs) returns
+    (λ c κs. search needs) (λ c κs. search needs) (λ c. search needs) returns-2)

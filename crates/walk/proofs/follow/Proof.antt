@@ -75,28 +75,8 @@ returns c = walk-end _ _ _ _ _ _ _ (c .before .loop .inv) (c .loop-test .left)
 pub follow-spec : {M : Type 1} → statement M
 follow-spec =
     tie.close
-    (tie.spec
-    Inv-loop
-    μ-loop
-    (λ c κs. search needs)
-    (λ c κs. search needs)
-    (λ c κs. search needs)
-    (λ c κs. search needs)
-    cast-delays
-    (λ c κs. search needs)
-    (λ c. search needs)
-    (λ c. search needs)
-    loop-holds
-    decide-at-requires
-    (λ c κs. search needs)
-    (λ c. search needs)
-    cast-delays-2
-    (λ c. search needs)
-    (λ c. search needs)
-    (λ c. search needs)
-    (λ c. search needs)
-    loop-again
-    (λ c. search needs)
-    (λ c. search needs)
-    (λ c. search needs)
+    (tie.spec Inv-loop μ-loop (λ c κs. search needs) (λ c κs. search needs) (λ c κs. search needs)
+    (λ c κs. search needs) cast-delays (λ c κs. search needs) (λ c. search needs) (λ c. search needs) loop-holds
+    decide-at-requires (λ c κs. search needs) (λ c. search needs) cast-delays-2 (λ c. search needs) (λ c. search needs)
+    (λ c. search needs) (λ c. search needs) loop-again (λ c. search needs) (λ c. search needs) (λ c. search needs)
     returns)

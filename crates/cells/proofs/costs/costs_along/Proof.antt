@@ -15,11 +15,11 @@ use Rattle.cells.proofs.costs.costs_along.Statement.{statement}
 use Rattle.cells.proofs.costs.costs_along.Tie as tie
 
 abbrev Inv-loop : tie.InvT-loop
-Inv-loop costs₀ m timing sums boarding from late₀ left₀ i₀ costs late left i =
-    CostsTo m (from .0) timing sums costs late left i
+Inv-loop costs₀ m timing sums boarding from late₀ boarded₀ i₀ costs late boarded i =
+    CostsTo m (from .0) timing sums costs late boarded i
 
 abbrev μ-loop : tie.MeasureT-loop
-μ-loop costs₀ m timing sums boarding from late₀ left₀ i₀ costs late left i = m + 1 - i
+μ-loop costs₀ m timing sums boarding from late₀ boarded₀ i₀ costs late boarded i = m + 1 - i
 
 -- the run begins on time
 loop-holds : tie.Need-loop-holds Inv-loop μ-loop
@@ -50,14 +50,14 @@ cost-requires c κs =
     let late = turn-late _ _ _ _ (start-of turn .pre .0) _ _ _ _ (turn .before .loop .inv) (turn .loop-test .taken) in
     (c .leaving .ensures .1, omega (arith, c .before .arrives .ensures, excess-here (c .before .before)))
 
--- those who board at station i or later are among those who are left, who are no more than everyone
+-- those who board at station i or later are among those counted, who are no more than everyone
 boards : (c : tie.After-index2 Inv-loop μ-loop) →
     let turn = station-of (c .before) .before in
     let start = start-of turn .args in
     let at-loop = turn .before .loop in
     let boarding = getD (start .boarding .now) (c .index2 .result) 0 in
     (boarding ≡ boardedIn (start .m) (start .sums .now) (at-loop .i) (at-loop .i))
-    × (boarding ≤ at-loop .left) × (at-loop .left ≤ everyone)
+    × (boarding ≤ at-loop .boarded) × (at-loop .boarded ≤ everyone)
 boards c =
     let turn = station-of (c .before) .before in
     let start = start-of turn in
@@ -83,9 +83,9 @@ cost-requires-2 c κs =
     let often = start-of turn .pre .0 .times .period _ (omega arith) (turn .loop-test .taken) in
     (omega (arith, boards (c .before .before)), omega (arith, minutes c, often))
 
--- some of those who are left leave train i
-sub-left : tie.Need-sub-left Inv-loop μ-loop
-sub-left c =
+-- some of those counted leave train i
+sub-boarded : tie.Need-sub-boarded Inv-loop μ-loop
+sub-boarded c =
     let costed = c .before .before .before .before .before .before .before .before in
     let turn = station-of costed .before in
     let parts = turn-leaves _ _ _ _ (start-of turn .pre .0) _ _ _ _ (turn .before .loop .inv) in
@@ -113,29 +113,7 @@ returns c =
 pub costs-along-spec : {M : Type 1} → statement M
 costs-along-spec =
     tie.close
-    (tie.spec
-    Inv-loop
-    μ-loop
-    (λ c κs. search needs)
-    (λ c κs. search needs)
-    (λ c. search needs)
-    (λ c. search needs)
-    loop-holds
-    (λ c κs. search needs)
-    (λ c κs. search needs)
-    (λ c κs. search needs)
-    (λ c κs. search needs)
-    cost-requires
-    (λ c κs. search needs)
-    (λ c. search needs)
-    (λ c. search needs)
-    sub-cost
-    (λ c κs. search needs)
-    cost-requires-2
-    (λ c κs. search needs)
-    sub-left
-    (λ c. search needs)
-    (λ c. search needs)
-    loop-again
-    (λ c. search needs)
-    returns)
+    (tie.spec Inv-loop μ-loop (λ c κs. search needs) (λ c κs. search needs) (λ c. search needs) (λ c. search needs)
+    loop-holds (λ c κs. search needs) (λ c κs. search needs) (λ c κs. search needs) (λ c κs. search needs) cost-requires
+    (λ c κs. search needs) (λ c. search needs) (λ c. search needs) sub-cost (λ c κs. search needs) cost-requires-2
+    (λ c κs. search needs) sub-boarded (λ c. search needs) (λ c. search needs) loop-again (λ c. search needs) returns)

@@ -18,15 +18,5 @@ returns c = rw (c .index .ensures)
 pub put-costs-spec : {M : Type 1} → statement M
 put-costs-spec =
     tie.close
-    (tie.spec
-    (λ c κs. search needs)
-    (λ c. search needs)
-    (λ c. search needs)
-    (λ c. search needs)
-    (λ c. search needs)
-    slice-write-costs-2
-    (λ c. search needs)
-    (λ c. search needs)
-    slice-write-costs-3
-    (λ c. search needs)
-    returns)
+    (tie.spec (λ c κs. search needs) (λ c. search needs) (λ c. search needs) (λ c. search needs) (λ c. search needs)
+    slice-write-costs-2 (λ c. search needs) (λ c. search needs) slice-write-costs-3 (λ c. search needs) returns)

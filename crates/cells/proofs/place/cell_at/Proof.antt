@@ -31,5 +31,4 @@ returns-2 : tie.Need-returns-2
 returns-2 c = sym (table-past _ _ _ _ (c .if1 .left))
 
 pub cell-at-spec : {M : Type 1} → statement M
-cell-at-spec =
-    tie.close (tie.spec (λ c κs. search needs) mul-result shared-slice-read-result returns returns-2)
+cell-at-spec = tie.close (tie.spec (λ c κs. search needs) mul-result shared-slice-read-result returns returns-2)

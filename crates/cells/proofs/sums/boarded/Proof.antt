@@ -56,13 +56,5 @@ returns c =
 pub boarded-spec : {M : Type 1} → statement M
 boarded-spec =
     tie.close
-    (tie.spec
-    Inv-loop
-    μ-loop
-    loop-holds
-    (λ c κs. search needs)
-    add-sum
-    (λ c. search needs)
-    (λ c. search needs)
-    loop-again
-    returns)
+    (tie.spec Inv-loop μ-loop loop-holds (λ c κs. search needs) add-sum (λ c. search needs) (λ c. search needs)
+    loop-again returns)
