@@ -10,13 +10,13 @@ use native.Mathlib.Omega.{arith}
 use lib.ListN.{getD}
 use Rattle.lists.proofs.Choice.{below-yes, below-no}
 use Rattle.lists.proofs.Order.{lt-or-ge}
-use Rattle.cells.specs.Place.{place, tableOf, InUse}
+use Rattle.cells.specs.Place.{cellCount, place, tableOf, InUse}
 use Rattle.cells.specs.Sums.{placeOfSum}
 
 -- ---- places
 
 module _ (m k l : ℕ) (first : 1 ≤ k) (run : k ≤ l) (last : l ≤ m) (most : m ≤ 64) where
-  pub place-lt : place m k l < 4096
+  pub place-lt : place m k l < cellCount
   unfolding place
   place-lt = omega arith
 
@@ -36,7 +36,7 @@ unfolding place
 place-one m k l j i few a b c u v w e = (omega arith, omega arith)
 
 -- a whole row is lent
-pub row-fits : (m k : ℕ) → 1 ≤ k → k ≤ m → m ≤ 64 → place m k k + (m + 1 - k) ≤ 4096
+pub row-fits : (m k : ℕ) → 1 ≤ k → k ≤ m → m ≤ 64 → place m k k + (m + 1 - k) ≤ cellCount
 unfolding place
 row-fits m k first last most = omega arith
 
