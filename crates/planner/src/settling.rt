@@ -32,6 +32,15 @@ pub fn settle(
     boarders(&mut boarding, sums, m);
     let mut costs = [0u64; 192];
     work_rows(cells, &mut costs, m, last, timing, sums, &boarding);
-    follow(decisions, delays, &mut costs, cells, m, timing, sums, &boarding);
+    follow(
+        decisions,
+        delays,
+        &mut costs,
+        cells,
+        m,
+        timing,
+        sums,
+        &boarding,
+    );
     cell_at(cells, m, Train(1), Train(1).leaves())
 }

@@ -25,24 +25,12 @@ small c = rw (c .before .loop .inv .1) (field-small _ _ _ (omega arith))
 mul-number : tie.Need-mul-number Inv-loop μ-loop
 mul-number c = omega (arith, small c)
 
-add-bit : tie.Need-add-bit Inv-loop μ-loop
-add-bit c = search needs
-
-bit-requires : tie.Need-bit-requires Inv-loop μ-loop
-bit-requires c κs = search needs
-
 -- a bit more stays below 2 ^ 32
 add-number : tie.Need-add-number Inv-loop μ-loop
 add-number c =
     let start = c .before .before .before .before .args in
     let k = c .before .before .loop .k in
     omega (arith, small (c .before), c .bit .ensures, bit-lt (start .bytes .now) (start .at + k))
-
-add-k : tie.Need-add-k Inv-loop μ-loop
-add-k c = search needs
-
-loop-less : tie.Need-loop-less Inv-loop μ-loop
-loop-less c = search needs
 
 loop-again : tie.Need-loop-again Inv-loop μ-loop
 loop-again c = (omega arith, rw field-more (cc))
@@ -53,15 +41,5 @@ returns c = c .before .loop .inv .1 ∙ ap (fieldOf _ _) (omega arith)
 pub field-spec : {M : Type 1} → statement M
 field-spec =
     tie.close
-    (tie.spec
-    Inv-loop
-    μ-loop
-    loop-holds
-    mul-number
-    add-bit
-    bit-requires
-    add-number
-    add-k
-    loop-less
-    loop-again
-    returns)
+    (tie.spec Inv-loop μ-loop loop-holds mul-number (λ c. search needs) (λ c κs. search needs) add-number
+    (λ c. search needs) (λ c. search needs) loop-again returns)

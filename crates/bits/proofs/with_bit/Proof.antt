@@ -9,32 +9,14 @@ use Rattle.bits.proofs.Bytes.{one-shl, machine}
 use Rattle.bits.proofs.with_bit.Statement.{statement}
 use Rattle.bits.proofs.with_bit.Tie as tie
 
-cast-high : tie.Need-cast-high
-cast-high c = search needs
-
-shr-high : tie.Need-shr-high
-shr-high c = search needs
-
 mul-high : tie.Need-mul-high
 mul-high c = omega (arith, div-le-self (c .args .byte) (2 ^ c .args .k))
 
 add-high : tie.Need-add-high
 add-high c = omega (arith, div-le-self (c .args .byte) (2 ^ c .args .k))
 
-cast-low : tie.Need-cast-low
-cast-low c = search needs
-
-shl-low : tie.Need-shl-low
-shl-low c = search needs
-
 rem-low : tie.Need-rem-low
 rem-low c = rw (one-shl (c .args .k) (omega arith)) (pow-pos _)
-
-cast-result : tie.Need-cast-result
-cast-result c = search needs
-
-shl-result : tie.Need-shl-result
-shl-result c = search needs
 
 add-result : tie.Need-add-result
 add-result c = omega (arith, machine _ _ _ (c .pre .1) (c .fits .byte .fits) (c .pre .0) .small)
@@ -48,16 +30,5 @@ returns c = machine _ _ _ (c .pre .1) (c .fits .byte .fits) (c .pre .0) .put
 pub with-bit-spec : {M : Type 1} → statement M
 with-bit-spec =
     tie.close
-    (tie.spec
-    cast-high
-    shr-high
-    mul-high
-    add-high
-    cast-low
-    shl-low
-    rem-low
-    cast-result
-    shl-result
-    add-result
-    cast-result-2
-    returns)
+    (tie.spec (λ c. search needs) (λ c. search needs) mul-high add-high (λ c. search needs) (λ c. search needs) rem-low
+    (λ c. search needs) (λ c. search needs) add-result cast-result-2 returns)

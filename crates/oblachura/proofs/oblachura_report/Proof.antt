@@ -5,33 +5,9 @@ use Rattle.oblachura.proofs.Call.{call-told, call-wrong-list}
 use Rattle.oblachura.proofs.oblachura_report.Statement.{statement}
 use Rattle.oblachura.proofs.oblachura_report.Tie as tie
 
-wrong-list-requires : tie.Need-wrong-list-requires
-wrong-list-requires c κs = search needs
-
 -- the list has another length
 returns : tie.Need-returns
 returns c = call-wrong-list (c .before .if1 .taken) (c .wrong-list .ensures)
-
-report-requires : tie.Need-report-requires
-report-requires c κs = search needs
-
-tell-answer-requires : tie.Need-tell-answer-requires
-tell-answer-requires c κs = search needs
-
-same-length : tie.Need-same-length
-same-length c = search needs
-
-same-length-2 : tie.Need-same-length-2
-same-length-2 c = search needs
-
-same-length-3 : tie.Need-same-length-3
-same-length-3 c = search needs
-
-same-length-4 : tie.Need-same-length-4
-same-length-4 c = search needs
-
-same-length-5 : tie.Need-same-length-5
-same-length-5 c = search needs
 
 -- the list has its length: report answered
 returns-2 : tie.Need-returns-2
@@ -44,14 +20,5 @@ returns-2 c =
 pub oblachura-report-spec : {M : Type 1} → statement M
 oblachura-report-spec =
     tie.close
-    (tie.spec
-    wrong-list-requires
-    returns
-    report-requires
-    tell-answer-requires
-    same-length
-    same-length-2
-    same-length-3
-    same-length-4
-    same-length-5
-    returns-2)
+    (tie.spec (λ c κs. search needs) returns (λ c κs. search needs) (λ c κs. search needs) (λ c. search needs)
+    (λ c. search needs) (λ c. search needs) (λ c. search needs) (λ c. search needs) returns-2)

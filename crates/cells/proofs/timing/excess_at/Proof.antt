@@ -20,4 +20,5 @@ returns-2 c = let e = slack-here (c .before) in omega arith
 
 pub excess-at-spec : {M : Type 1} → statement M
 excess-at-spec =
-    tie.close (tie.spec (λ c κs. search needs) (λ c κs. search needs) (λ c. search needs) returns returns-2)
+    tie.close
+    (tie.spec (λ c κs. search needs) (λ c κs. search needs) (λ c. search needs) returns returns-2)

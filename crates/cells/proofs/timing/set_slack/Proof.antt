@@ -9,4 +9,5 @@ returns c = rw (c .index .ensures)
 
 pub set-slack-spec : {M : Type 1} → statement M
 set-slack-spec =
-    tie.close (tie.spec (λ c κs. search needs) (λ c. search needs) (λ c. search needs) (λ c. search needs) returns)
+    tie.close
+    (tie.spec (λ c κs. search needs) (λ c. search needs) (λ c. search needs) (λ c. search needs) returns)

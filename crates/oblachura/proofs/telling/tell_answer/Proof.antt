@@ -5,21 +5,6 @@ use mathlib.Core.Path.{_∙_}
 use Rattle.oblachura.proofs.telling.tell_answer.Statement.{statement}
 use Rattle.oblachura.proofs.telling.tell_answer.Tie as tie
 
-number-requires : tie.Need-number-requires
-number-requires c κs = search needs
-
-place-requires : tie.Need-place-requires
-place-requires c κs = search needs
-
-carries-requires : tie.Need-carries-requires
-carries-requires c κs = search needs
-
-store-three-requires : tie.Need-store-three-requires
-store-three-requires c κs = search needs
-
-same-length : tie.Need-same-length
-same-length c = search needs
-
 -- number, place and total are those of the answer
 returns : tie.Need-returns
 returns c =
@@ -33,10 +18,5 @@ returns c =
 pub tell-answer-spec : {M : Type 1} → statement M
 tell-answer-spec =
     tie.close
-    (tie.spec
-    number-requires
-    place-requires
-    carries-requires
-    store-three-requires
-    same-length
-    returns)
+    (tie.spec (λ c κs. search needs) (λ c κs. search needs) (λ c κs. search needs) (λ c κs. search needs)
+    (λ c. search needs) returns)

@@ -5,24 +5,6 @@ use mathlib.Core.Path.{_∙_}
 use Rattle.oblachura.proofs.telling.tell_reading.Statement.{statement}
 use Rattle.oblachura.proofs.telling.tell_reading.Tie as tie
 
-number-requires : tie.Need-number-requires
-number-requires c κs = search needs
-
-place-requires : tie.Need-place-requires
-place-requires c κs = search needs
-
-trains-requires : tie.Need-trains-requires
-trains-requires c κs = search needs
-
-period-requires : tie.Need-period-requires
-period-requires c κs = search needs
-
-store-four-requires : tie.Need-store-four-requires
-store-four-requires c κs = search needs
-
-same-length : tie.Need-same-length
-same-length c = search needs
-
 -- number, place, m and T are those of the answer
 returns : tie.Need-returns
 returns c =
@@ -37,11 +19,5 @@ returns c =
 pub tell-reading-spec : {M : Type 1} → statement M
 tell-reading-spec =
     tie.close
-    (tie.spec
-    number-requires
-    place-requires
-    trains-requires
-    period-requires
-    store-four-requires
-    same-length
-    returns)
+    (tie.spec (λ c κs. search needs) (λ c κs. search needs) (λ c κs. search needs) (λ c κs. search needs)
+    (λ c κs. search needs) (λ c. search needs) returns)

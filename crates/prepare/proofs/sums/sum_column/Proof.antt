@@ -67,19 +67,6 @@ returns c = column-end _ _ _ _ _ (c .before .loop .inv) (omega arith)
 pub sum-column-spec : {M : Type 1} → statement M
 sum-column-spec =
     tie.close
-    (tie.spec
-    Inv-loop
-    μ-loop
-    (λ c κs. search needs)
-    (λ c κs. search needs)
-    loop-holds
-    pair-requires
-    add-sum
-    place-of-sum-requires
-    (λ c. search needs)
-    (λ c. search needs)
-    (λ c. search needs)
-    (λ c. search needs)
-    loop-again
-    (λ c. search needs)
-    returns)
+    (tie.spec Inv-loop μ-loop (λ c κs. search needs) (λ c κs. search needs) loop-holds pair-requires add-sum
+    place-of-sum-requires (λ c. search needs) (λ c. search needs) (λ c. search needs) (λ c. search needs) loop-again
+    (λ c. search needs) returns)

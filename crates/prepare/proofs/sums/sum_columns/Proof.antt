@@ -30,13 +30,5 @@ returns c = sums-fewer (c .before .loop .inv .2) (omega arith)
 pub sum-columns-spec : {M : Type 1} → statement M
 sum-columns-spec =
     tie.close
-    (tie.spec
-    Inv-loop
-    μ-loop
-    loop-holds
-    (λ c κs. search needs)
-    (λ c. search needs)
-    (λ c. search needs)
-    loop-again
-    (λ c. search needs)
-    returns)
+    (tie.spec Inv-loop μ-loop loop-holds (λ c κs. search needs) (λ c. search needs) (λ c. search needs) loop-again
+    (λ c. search needs) returns)

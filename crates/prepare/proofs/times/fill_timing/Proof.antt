@@ -46,13 +46,5 @@ returns c = times-fewer (c .before .loop .inv .2) (omega arith)
 pub fill-timing-spec : {M : Type 1} → statement M
 fill-timing-spec =
     tie.close
-    (tie.spec
-    Inv-loop
-    μ-loop
-    loop-holds
-    set-times-requires
-    add-i
-    (λ c. search needs)
-    loop-again
-    (λ c. search needs)
+    (tie.spec Inv-loop μ-loop loop-holds set-times-requires add-i (λ c. search needs) loop-again (λ c. search needs)
     returns)

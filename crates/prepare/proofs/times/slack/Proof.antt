@@ -46,18 +46,7 @@ returns-2 c h = let read = reads (c .before .before .before) in rw (read .0, rea
 pub slack-spec : {M : Type 1} → statement M
 slack-spec =
     tie.close
-    (tie.spec
-    (λ c. search needs)
-    (λ c κs. search needs)
-    (λ c κs. search needs)
-    (λ c κs. search needs)
-    (λ c κs. search needs)
-    (λ c. search needs)
-    (λ c. search needs)
-    (λ c. search needs)
-    (λ c. search needs)
-    (λ c. omega (arith, enough (c .before .before)))
-    (λ c. search needs)
-    (λ c. search needs)
-    (λ c. omega (arith, enough (c .before .before .before)))
-    returns-2)
+    (tie.spec (λ c. search needs) (λ c κs. search needs) (λ c κs. search needs) (λ c κs. search needs)
+    (λ c κs. search needs) (λ c. search needs) (λ c. search needs) (λ c. search needs) (λ c. search needs)
+    (λ c. omega (arith, enough (c .before .before))) (λ c. search needs) (λ c. search needs)
+    (λ c. omega (arith, enough (c .before .before .before))) returns-2)

@@ -40,10 +40,4 @@ returns-2 c =
 pub check-body-spec : {M : Type 1} → statement M
 check-body-spec =
     tie.close
-    (tie.spec
-    check-numbers-requires
-    (λ c. search needs)
-    returns
-    (λ c. search needs)
-    (λ c κs. search needs)
-    returns-2)
+    (tie.spec check-numbers-requires (λ c. search needs) returns (λ c. search needs) (λ c κs. search needs) returns-2)

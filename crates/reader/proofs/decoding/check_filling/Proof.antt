@@ -47,5 +47,4 @@ returns-2 c =
     (miss _ _ _ _ _ (omega arith) no-more)
 
 pub check-filling-spec : {M : Type 1} → statement M
-check-filling-spec =
-    tie.close (tie.spec (λ c κs. search needs) mul-field sub-field field-requires returns returns-2)
+check-filling-spec = tie.close (tie.spec (λ c κs. search needs) mul-field sub-field field-requires returns returns-2)

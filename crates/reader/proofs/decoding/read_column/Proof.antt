@@ -45,17 +45,6 @@ returns c =
 pub read-column-spec : {M : Type 1} → statement M
 read-column-spec =
     tie.close
-    (tie.spec
-    Inv-loop
-    μ-loop
-    (λ c. (omega arith, filled-none _ _ _))
-    (λ c. omega (arith, reach c .near))
-    (λ c. omega (arith, reach c .near))
-    (λ c κs. reach c)
-    (λ c. search needs)
-    slice-write-list
-    (λ c. search needs)
-    (λ c. search needs)
-    loop-again
-    (λ c. c .before .loop .inv .1 .long)
-    returns)
+    (tie.spec Inv-loop μ-loop (λ c. (omega arith, filled-none _ _ _)) (λ c. omega (arith, reach c .near))
+    (λ c. omega (arith, reach c .near)) (λ c κs. reach c) (λ c. search needs) slice-write-list (λ c. search needs)
+    (λ c. search needs) loop-again (λ c. c .before .loop .inv .1 .long) returns)

@@ -83,18 +83,6 @@ returns c =
 pub read-columns-spec : {M : Type 1} → statement M
 read-columns-spec =
     tie.close
-    (tie.spec
-    (λ c κs. search needs)
-    read-column-requires
-    (λ c κs. search needs)
-    read-column-requires-2
-    (λ c κs. search needs)
-    read-column-requires-3
-    (λ c κs. search needs)
-    pairs-of-requires
-    read-column-requires-4
-    (λ c. search needs)
-    (λ c. search needs)
-    (λ c. search needs)
-    (λ c. search needs)
-    returns)
+    (tie.spec (λ c κs. search needs) read-column-requires (λ c κs. search needs) read-column-requires-2
+    (λ c κs. search needs) read-column-requires-3 (λ c κs. search needs) pairs-of-requires read-column-requires-4
+    (λ c. search needs) (λ c. search needs) (λ c. search needs) (λ c. search needs) returns)
