@@ -11,8 +11,8 @@ use crate::timing::arrives;
 use crate::timing::cost;
 use crate::timing::excess_at;
 use crate::timing::period_at;
-use rail::Station;
-use rail::Train;
+use terms::Station;
+use terms::Train;
 
 // Where the costs of keep and of go begin.
 const KEEPS: usize = 64;

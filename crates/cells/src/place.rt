@@ -3,8 +3,8 @@ ghost use mathlib.Core.Path.{_≡_};
 ghost use Prim.Native.Nat.{_≤_};
 ghost use lib.ListN.{length};
 ghost use Rattle.cells.specs.Place.{cellCount, place, tableOf};
-use rail::Station;
-use rail::Train;
+use terms::Station;
+use terms::Train;
 
 // The cell of the run from `first` at station `at`, of a line of `m` trains. In this layout it
 // stands in the same place whatever `m` is.

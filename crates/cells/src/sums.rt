@@ -6,8 +6,8 @@ ghost use lib.ListN.{length};
 ghost use Rattle.line.specs.Ranges.{everyone};
 ghost use Rattle.cells.specs.Sums.{placeOfSum, leavingIn, boardedIn, SumsGiven, Boarders};
 use crate::timing::wide;
-use rail::Station;
-use rail::Train;
+use terms::Station;
+use terms::Train;
 
 // Where the sum stands of those who board at `from` or later and leave `train`; no other function
 // knows.

@@ -6,8 +6,8 @@ ghost use lib.ListN.{length, getD, set};
 ghost use Rattle.line.specs.Ranges.{latest, everyone, limit};
 ghost use Rattle.cells.specs.Timing.{placeOfSlack, placeOfSource, placeOfPeriod};
 ghost use Rattle.cells.specs.Timing.{slackIn, sourceIn, periodIn};
-use rail::Station;
-use rail::Train;
+use terms::Station;
+use terms::Train;
 
 // Where the source delays and the periods begin.
 const SOURCES: usize = 64;

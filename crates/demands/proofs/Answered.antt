@@ -10,15 +10,15 @@ use native.Mathlib.Nat.{le-trans, le-of-eq, le-refl}
 use native.Mathlib.Omega.{arith}
 use lib.ListN.{length, getD, length-replicate}
 use Rattle.lists.proofs.Run.{padded-length}
-use Rattle.rail.specs.declared.Refusal.{Refusal}
-use Rattle.rail.specs.declared.ListFault.the-variants.{BufferLength}
-use Rattle.rail.specs.declared.Refusal.the-variants.{OfList}
-use Rattle.rail.specs.declared.Verdict.{Verdict}
-use Rattle.rail.specs.declared.Verdict.the-variants.{Fine, Refused}
-use Rattle.rail.specs.Refusal.{blanksOf}
-use Rattle.rail.specs.Verdict.{_andThen_, numberIn, placeIn}
-use Rattle.rail.proofs.Checks.{fine-or-refused}
-use Rattle.rail.proofs.Refusing.{zero-is-fine}
+use Rattle.terms.specs.declared.Refusal.{Refusal}
+use Rattle.terms.specs.declared.ListFault.the-variants.{BufferLength}
+use Rattle.terms.specs.declared.Refusal.the-variants.{OfList}
+use Rattle.terms.specs.declared.Verdict.{Verdict}
+use Rattle.terms.specs.declared.Verdict.the-variants.{Fine, Refused}
+use Rattle.terms.specs.Refusal.{blanksOf}
+use Rattle.terms.specs.Verdict.{_andThen_, numberIn, placeIn}
+use Rattle.terms.proofs.Checks.{fine-or-refused}
+use Rattle.terms.proofs.Refusing.{zero-is-fine}
 use Rattle.line.specs.Line.{Line, lineFrom}
 use Rattle.line.specs.Cells.{bookOf}
 use Rattle.line.specs.Ranges.{limit, LineInRange}
@@ -40,8 +40,8 @@ use Rattle.planner.specs.Buffers.{Buffers, RightLengths, Blanked}
 use Rattle.planner.specs.Settled.{Settled}
 use Rattle.prepare.proofs.Lines.{line-in-range}
 use Rattle.planner.proofs.Outcome.{outcome-number, outcome-place, refused-carries}
-use Rattle.rail.specs.declared.Answer.{Answer}
-use Rattle.rail.specs.Answer.{answerNumber, answerPlace, answerCarries}
+use Rattle.terms.specs.declared.Answer.{Answer}
+use Rattle.terms.specs.Answer.{answerNumber, answerPlace, answerCarries}
 use Rattle.planner.specs.Buffers.{buffersVerdict}
 use Rattle.planner.specs.Outcome.{Outcome}
 use Rattle.planner.specs.Plan.{planVerdict, Planned, Plan}
@@ -96,80 +96,81 @@ module _ (w : Verdict) (Stored : ℕ → Type 0) (before after : Buffers) (a : A
 
   module _ (Passes : Type 0) (m last : ℕ) (passes : w ≡ Fine → Passes) (fine-of : Passes → w ≡ Fine)
       (blank : (r : Refusal) → w ≡ Refused r → blanksOf r ≡ true)
-      (left : RightLengths before → w ≡ Fine → Stored (answerCarries a) → Left m last before after (answerCarries a)) where
-    left-when : checks ≡ Fine → Left m last before after (answerCarries a)
-    left-when fine = let both = checks-fine before w fine in left (both .0) (both .1) (h .accepted fine)
+      (left : RightLengths before → w ≡ Fine → Stored (answerCarries a) → Left m last before after (answerCarries a))
+    where
+      left-when : checks ≡ Fine → Left m last before after (answerCarries a)
+      left-when fine = let both = checks-fine before w fine in left (both .0) (both .1) (h .accepted fine)
 
-    -- with buffers of the right lengths a refusal is one of w's, and such a one blanks
-    blanked : RightLengths before → (r : Refusal) → checks ≡ Refused r → Blanked before after
-    blanked right r e = h .refused r e .blanked (blank r (sym (checks-right before w right) ∙ e))
+      -- with buffers of the right lengths a refusal is one of w's, and such a one blanks
+      blanked : RightLengths before → (r : Refusal) → checks ≡ Refused r → Blanked before after
+      blanked right r e = h .refused r e .blanked (blank r (sym (checks-right before w right) ∙ e))
 
-    right-after : RightLengths before → RightLengths after
-    right-after right = elim (fine-or-refused checks) [
-      | inl fine ↦ left-when fine .lengths
-      | inr (r, e) ↦
-          let blank = blanked right r e in
+      right-after : RightLengths before → RightLengths after
+      right-after right = elim (fine-or-refused checks) [
+        | inl fine ↦ left-when fine .lengths
+        | inr (r, e) ↦
+            let blank = blanked right r e in
+            record {
+              cells = ap length (blank .cells) ∙ right .cells;
+              decisions = ap length (blank .decisions) ∙ length-replicate {A = ℕ} 64 2;
+              delays = ap length (blank .delays) ∙ length-replicate {A = ℕ} 64 0;
+            }
+      ]
+
+      lengths-kept : SameLengths before after
+      lengths-kept = elim (fine-or-refused (buffersVerdict before)) [
+        | inl fine ↦
+            let right = right-of-fine before fine in
+            let later = right-after right in
+            record {
+              cells = later .cells ∙ sym (right .cells);
+              decisions = later .decisions ∙ sym (right .decisions);
+              delays = later .delays ∙ sym (right .delays);
+            }
+        | inr (r, e) ↦
+            let same = nothing-written (checks-wrong before w r e) in
+            record {
+              cells = ap (λ (b : Buffers). length (b .cells)) same;
+              decisions = ap (λ (b : Buffers). length (b .decisions)) same;
+              delays = ap (λ (b : Buffers). length (b .delays)) same;
+            }
+      ]
+
+      blanks-when-refused : RightLengths before → ¬ (answerNumber a ≡ 0) → Blanked before after
+      blanks-when-refused right refused = elim (fine-or-refused checks) [
+        | inl fine ↦ absurd (refused (zero-of-fine fine))
+        | inr (r, e) ↦ blanked right r e
+      ]
+
+      untouched-when-wrong : ¬ (RightLengths before) → (answerNumber a ≡ 10) × (after ≡ before)
+      untouched-when-wrong wrong = elim (fine-or-refused (buffersVerdict before)) [
+        | inl fine ↦ absurd (wrong (right-of-fine before fine))
+        | inr (r, e) ↦
+            let ten = checks-wrong before w r e in
+            (number ∙ ap numberIn ten, nothing-written ten)
+      ]
+
+      total-most : answerCarries a ≤ limit
+      total-most = elim (fine-or-refused checks) [
+        | inl fine ↦ left-when fine .most
+        | inr (r, e) ↦ rw (refused-by r e .total) zero-le
+      ]
+
+      answered : Answered operations checks Passes m last tt before after a
+      answered =
           record {
-            cells = ap length (blank .cells) ∙ right .cells;
-            decisions = ap length (blank .decisions) ∙ length-replicate {A = ℕ} 64 2;
-            delays = ap length (blank .delays) ∙ length-replicate {A = ℕ} 64 0;
+            accepts = λ right ok. zero-of-fine (checks-right before w (right .buffers) ∙ fine-of ok);
+            accepted-only = λ e.
+                let both = checks-fine before w (fine-of-zero e) in
+                (all-right (both .0), passes (both .1));
+            accepted-place = λ e. place ∙ ap placeIn (fine-of-zero e);
+            refuses = λ fits. refused-by;
+            blanks = λ right. blanks-when-refused (right .buffers);
+            untouched = λ wrong. untouched-when-wrong (λ right. wrong (all-right right));
+            others = λ e. left-when (fine-of-zero e) .others;
+            lengths = lengths-kept;
+            most = λ fits. total-most;
           }
-    ]
-
-    lengths-kept : SameLengths before after
-    lengths-kept = elim (fine-or-refused (buffersVerdict before)) [
-      | inl fine ↦
-          let right = right-of-fine before fine in
-          let later = right-after right in
-          record {
-            cells = later .cells ∙ sym (right .cells);
-            decisions = later .decisions ∙ sym (right .decisions);
-            delays = later .delays ∙ sym (right .delays);
-          }
-      | inr (r, e) ↦
-          let same = nothing-written (checks-wrong before w r e) in
-          record {
-            cells = ap (λ (b : Buffers). length (b .cells)) same;
-            decisions = ap (λ (b : Buffers). length (b .decisions)) same;
-            delays = ap (λ (b : Buffers). length (b .delays)) same;
-          }
-    ]
-
-    blanks-when-refused : RightLengths before → ¬ (answerNumber a ≡ 0) → Blanked before after
-    blanks-when-refused right refused = elim (fine-or-refused checks) [
-      | inl fine ↦ absurd (refused (zero-of-fine fine))
-      | inr (r, e) ↦ blanked right r e
-    ]
-
-    untouched-when-wrong : ¬ (RightLengths before) → (answerNumber a ≡ 10) × (after ≡ before)
-    untouched-when-wrong wrong = elim (fine-or-refused (buffersVerdict before)) [
-      | inl fine ↦ absurd (wrong (right-of-fine before fine))
-      | inr (r, e) ↦
-          let ten = checks-wrong before w r e in
-          (number ∙ ap numberIn ten, nothing-written ten)
-    ]
-
-    total-most : answerCarries a ≤ limit
-    total-most = elim (fine-or-refused checks) [
-      | inl fine ↦ left-when fine .most
-      | inr (r, e) ↦ rw (refused-by r e .total) zero-le
-    ]
-
-    answered : Answered operations checks Passes m last tt before after a
-    answered =
-        record {
-          accepts = λ right ok. zero-of-fine (checks-right before w (right .buffers) ∙ fine-of ok);
-          accepted-only = λ e.
-              let both = checks-fine before w (fine-of-zero e) in
-              (all-right (both .0), passes (both .1));
-          accepted-place = λ e. place ∙ ap placeIn (fine-of-zero e);
-          refuses = λ fits. refused-by;
-          blanks = λ right. blanks-when-refused (right .buffers);
-          untouched = λ wrong. untouched-when-wrong (λ right. wrong (all-right right));
-          others = λ e. left-when (fine-of-zero e) .others;
-          lengths = lengths-kept;
-          most = λ fits. total-most;
-        }
 
 -- ---- of a plan
 

@@ -12,9 +12,9 @@ use Rattle.lists.specs.Run.{listed, padded, nth}
 use Rattle.lists.proofs.Choice.{below-yes, below-no}
 use Rattle.lists.proofs.Order.{lt-or-ge}
 use Rattle.lists.proofs.Run.{listed-each, listed-padded, padded-same}
-use Rattle.rail.specs.declared.Verdict.{Verdict}
-use Rattle.rail.specs.declared.Verdict.the-variants.{Fine}
-use Rattle.rail.specs.Answer.{answerCarries, answerOf}
+use Rattle.terms.specs.declared.Verdict.{Verdict}
+use Rattle.terms.specs.declared.Verdict.the-variants.{Fine}
+use Rattle.terms.specs.Answer.{answerCarries, answerOf}
 use Rattle.line.specs.Line.{Line, lineFrom}
 use Rattle.line.specs.Policy.{Decision, Keep, Policy, arrival, total}
 use Rattle.line.specs.Cells.{Table, bookOf, Worked}
@@ -34,8 +34,8 @@ use Rattle.cells.proofs.Places.{table-in}
 use Rattle.cells.proofs.Shown.{shown-same}
 use Rattle.prepare.specs.LineOf.{lineOf}
 use Rattle.planner.specs.Buffers.{Buffers, RightLengths}
-use Rattle.rail.specs.declared.Answer.{Answer}
-use Rattle.rail.specs.declared.Answer.the-variants.{Accepted}
+use Rattle.terms.specs.declared.Answer.{Answer}
+use Rattle.terms.specs.declared.Answer.the-variants.{Accepted}
 use Rattle.planner.specs.Plan.{planVerdict, Planned, Plan}
 use Rattle.planner.proofs.Refusals.{checks-right}
 use Rattle.demands.specs.Sheets.{decisionBytes, Leaves}
@@ -142,6 +142,8 @@ module _ (s : List ℕ) (M : Line) (x : CaseAnswer) (fine : sheetVerdict s ≡ F
   pub leaves : Leaves (M .trains) x after a
   leaves =
       record {
-        answer = h .answer ∙ ap (λ (v : Verdict). answerOf v (answerCarries a)) passed ∙ ap Accepted (plan .answer ∙ total-is);
+        answer =
+            h .answer ∙ ap (λ (v : Verdict). answerOf v (answerCarries a)) passed
+            ∙ ap Accepted (plan .answer ∙ total-is);
         held = record { decisions = decisions-are; delays = delays-are; cells = cells-are };
       }

@@ -23,8 +23,8 @@ use Rattle.sheet.proofs.Amend.{replaced-numbers, with-delay-same}
 use Rattle.prepare.specs.LineOf.{lineOf}
 use Rattle.planner.specs.Buffers.{Buffers, RightLengths}
 use Rattle.prepare.proofs.Lines.{lines-of-same}
-use Rattle.rail.specs.declared.Answer.{Answer}
-use Rattle.rail.specs.Answer.{answerNumber}
+use Rattle.terms.specs.declared.Answer.{Answer}
+use Rattle.terms.specs.Answer.{answerNumber}
 use Rattle.demands.specs.Sheets.{sheetB, Leaves, ReportAfterB4, AnswersB7, AnswersB8}
 use Rattle.demands.specs.Calling.{operations}
 use Rattle.demands.specs.Runs.{InRun, planned, reported, ReportInRun}

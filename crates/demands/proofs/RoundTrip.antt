@@ -9,8 +9,8 @@ use lib.ListN.{length, take}
 use lib.Seq.{ext-getD, getD-take, length-take-le}
 use Rattle.lists.specs.Run.{nth, padded}
 use Rattle.lists.proofs.Run.{padded-length, padded-nth}
-use Rattle.rail.specs.declared.Verdict.the-variants.{Fine}
-use Rattle.rail.proofs.Checks.{then-fine, fine-then}
+use Rattle.terms.specs.declared.Verdict.the-variants.{Fine}
+use Rattle.terms.proofs.Checks.{then-fine, fine-then}
 use Rattle.sheet.specs.Format.{trainsOf, periodOf, departureOf, drivingOf, delayOf, passengersOf, bytesOf, pairsOf}
 use Rattle.sheet.specs.Numbers.{Lists, lists, numbersOf}
 use Rattle.sheet.specs.Checks.{sheetVerdict}
@@ -22,15 +22,15 @@ use Rattle.reader.specs.Reading.{readingOf}
 use Rattle.reader.specs.Read.{readVerdict, Read}
 use Rattle.reader.proofs.ReadingOf.{accepted-fine}
 use Rattle.writer.specs.Write.{Given, numbersGiven, writeVerdict, Write, Accepts}
-use Rattle.rail.specs.Answer.{answerOf}
-use Rattle.rail.proofs.Answers.{accepted-answer}
+use Rattle.terms.specs.Answer.{answerOf}
+use Rattle.terms.proofs.Answers.{accepted-answer}
 use Rattle.writer.proofs.Facts.{accepts-of-fine, fine-of-accepts}
-use Rattle.rail.specs.declared.Verdict.{Verdict}
+use Rattle.terms.specs.declared.Verdict.{Verdict}
 use Rattle.bits.specs.Field.{Bytes}
 use Rattle.reader.specs.declared.Reading.{Reading}
 use Rattle.reader.specs.declared.Reading.the-variants.{Accepted as ReadAccepted}
-use Rattle.rail.specs.declared.Answer.{Answer}
-use Rattle.rail.specs.declared.Answer.the-variants.{Accepted as WriteAccepted}
+use Rattle.terms.specs.declared.Answer.{Answer}
+use Rattle.terms.specs.declared.Answer.the-variants.{Accepted as WriteAccepted}
 use Rattle.demands.specs.OneMeaning.{givenFrom, ReadThenWrite, WriteThenRead, EqualFields}
 
 pub equal-fields : EqualFields

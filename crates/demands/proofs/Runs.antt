@@ -9,12 +9,12 @@ use Prim.Native.Nat.{ℕ, _+_, _≤_}
 use native.Mathlib.Nat.{le-trans}
 use native.Mathlib.Omega.{arith}
 use lib.ListN.{getD}
-use Rattle.rail.specs.declared.Refusal.{Refusal}
-use Rattle.rail.specs.declared.Verdict.{Verdict}
-use Rattle.rail.specs.declared.Verdict.the-variants.{Fine, Refused}
-use Rattle.rail.specs.Verdict.{numberIn}
-use Rattle.rail.proofs.Checks.{refused-not-fine, fine-or-refused}
-use Rattle.rail.proofs.Refusing.{Only, only-of, only-then}
+use Rattle.terms.specs.declared.Refusal.{Refusal}
+use Rattle.terms.specs.declared.Verdict.{Verdict}
+use Rattle.terms.specs.declared.Verdict.the-variants.{Fine, Refused}
+use Rattle.terms.specs.Verdict.{numberIn}
+use Rattle.terms.proofs.Checks.{refused-not-fine, fine-or-refused}
+use Rattle.terms.proofs.Refusing.{Only, only-of, only-then}
 use Rattle.line.specs.Line.{Line, lineFrom}
 use Rattle.line.specs.Cells.{Table, Book, bookOf, Worked}
 use Rattle.line.proofs.Alike.{books-of-lines}
@@ -37,9 +37,9 @@ use Rattle.prepare.specs.LineOf.{lineOf}
 use Rattle.planner.specs.Buffers.{Buffers, RightLengths}
 use Rattle.planner.specs.Settled.{Settled}
 use Rattle.prepare.proofs.Lines.{line-in-range, lines-after}
-use Rattle.rail.specs.declared.Answer.{Answer}
-use Rattle.rail.specs.declared.Answer.the-variants.{Accepted}
-use Rattle.rail.specs.Answer.{answerNumber, answerCarries, answerOf}
+use Rattle.terms.specs.declared.Answer.{Answer}
+use Rattle.terms.specs.declared.Answer.the-variants.{Accepted}
+use Rattle.terms.specs.Answer.{answerNumber, answerCarries, answerOf}
 use Rattle.planner.specs.Outcome.{Outcome}
 use Rattle.planner.specs.Plan.{planVerdict, Planned, Plan}
 use Rattle.planner.specs.Report.{reportVerdict, Reported, Report}
@@ -220,7 +220,8 @@ module _ (s : List ℕ) (i v : ℕ) (before : Buffers) (t : List ℕ) (after : B
     unfolding planVerdict lineOf lineFrom
     fresh b b′ a′ right plan =
         let fine′ = checks-right b (sheetVerdict t) right ∙ fine-of-accepted t ok in
-        planned-agrees L before after b b′ a a′ (outcome-number _ _ _ _ a′ plan ∙ ap numberIn fine′) is-planned (plan .accepted fine′)
+        planned-agrees L before after b b′ a a′ (outcome-number _ _ _ _ a′ plan ∙ ap numberIn fine′) is-planned
+        (plan .accepted fine′)
 
     rows-only : (p : ℕ) → ¬ (InUse (trainsOf s) i p) → getD (after .cells) p 0 ≡ getD (before .cells) p 0
     unfolding lineOf lineFrom

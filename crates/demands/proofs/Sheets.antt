@@ -6,8 +6,8 @@ use native.Mathlib.Omega.{arith}
 use Rattle.lists.specs.Choice.{ifBelow}
 use Rattle.lists.specs.Run.{runOf, listed}
 use Rattle.bits.specs.Field.{bitAt, fieldOf}
-use Rattle.rail.specs.declared.Verdict.the-variants.{Fine}
-use Rattle.rail.specs.Verdict.{verdictOf, _andThen_, firstOf}
+use Rattle.terms.specs.declared.Verdict.the-variants.{Fine}
+use Rattle.terms.specs.Verdict.{verdictOf, _andThen_, firstOf}
 use Rattle.line.specs.Line.{lineFrom}
 use Rattle.line.specs.Alike.{LinesAlike}
 use Rattle.line.specs.Answers.{PlanAnswer}
@@ -28,12 +28,14 @@ use Rattle.demands.proofs.Printed.{pairRows, lines-same, leaves}
 
 pub sheet-b-accepted : sheetVerdict sheetB ≡ Fine
 unfolding sheetVerdict headVerdict rangesVerdict bodyVerdict numbersVerdict trainVerdict trainChecks earliestOf
-    passengersVerdict fillingVerdict verdictOf _andThen_ firstOf runOf ifBelow bitAt fieldOf entry bitsOf bytesOf pairsOf
+    passengersVerdict fillingVerdict verdictOf _andThen_ firstOf runOf ifBelow bitAt fieldOf entry bitsOf bytesOf
+    pairsOf
 sheet-b-accepted = refl
 
 sheet-b13-accepted : sheetVerdict sheetB13 ≡ Fine
 unfolding sheetVerdict headVerdict rangesVerdict bodyVerdict numbersVerdict trainVerdict trainChecks earliestOf
-    passengersVerdict fillingVerdict verdictOf _andThen_ firstOf runOf ifBelow bitAt fieldOf entry bitsOf bytesOf pairsOf
+    passengersVerdict fillingVerdict verdictOf _andThen_ firstOf runOf ifBelow bitAt fieldOf entry bitsOf bytesOf
+    pairsOf
 sheet-b13-accepted = refl
 
 -- ---- and have the lines of their cases

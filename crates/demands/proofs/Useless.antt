@@ -13,7 +13,7 @@ use Rattle.line.specs.Cases.{b4, b6, b7}
 use Rattle.sheet.proofs.Facts.{accepted-of-fine}
 use Rattle.cells.specs.Shown.{shown}
 use Rattle.planner.specs.ReportChecks.{FirstOver}
-use Rattle.rail.specs.Answer.{answerCarries}
+use Rattle.terms.specs.Answer.{answerCarries}
 use Rattle.demands.specs.Sheets.{sheetB, decisionBytes}
 use Rattle.demands.specs.Useless.{RefusesAllBreaks, SameDecisionsBreak, AllKeepBreaks, DoesNothingBreaks}
 use Rattle.demands.specs.Useless.{DecisionsStayBreak, StaysBlankBreaks, RepeatsPlanBreaks, WritesEarlyBreaks}

@@ -15,12 +15,12 @@ use mathlib.Core.List.{List}
 use mathlib.Core.Logic.{_⊎_}
 use lib.ListN.{length, getD}
 use Rattle.bits.specs.Field.{Bytes}
-use Rattle.rail.specs.declared.Refusal.{Refusal}
-use Rattle.rail.specs.declared.ReportFault.the-variants.{NoSuchTrain, NewDelay, CellOverLimit}
-use Rattle.rail.specs.declared.Refusal.the-variants.{OfReport}
-use Rattle.rail.specs.declared.Verdict.{Verdict}
-use Rattle.rail.specs.declared.Verdict.the-variants.{Refused}
-use Rattle.rail.specs.Refusal.{train, numberOf, placeOf}
+use Rattle.terms.specs.declared.Refusal.{Refusal}
+use Rattle.terms.specs.declared.ReportFault.the-variants.{NoSuchTrain, NewDelay, CellOverLimit}
+use Rattle.terms.specs.declared.Refusal.the-variants.{OfReport}
+use Rattle.terms.specs.declared.Verdict.{Verdict}
+use Rattle.terms.specs.declared.Verdict.the-variants.{Refused}
+use Rattle.terms.specs.Refusal.{train, numberOf, placeOf}
 use Rattle.line.specs.Ranges.{limit}
 use Rattle.sheet.specs.Format.{trainsOf}
 use Rattle.sheet.specs.Accepted.{AcceptedSheet}

@@ -14,12 +14,12 @@ use mathlib.Core.Path.{_≡_}
 use mathlib.Core.List.{List}
 use mathlib.Core.Logic.{_⊎_}
 use lib.ListN.{getD}
-use Rattle.rail.specs.declared.Refusal.{Refusal}
-use Rattle.rail.specs.declared.ListFault.the-variants.{BufferLength}
-use Rattle.rail.specs.declared.ReportFault.the-variants.{NoSuchTrain, NewDelay}
-use Rattle.rail.specs.declared.Refusal.the-variants.{OfList, OfReport}
-use Rattle.rail.specs.declared.Verdict.the-variants.{Refused}
-use Rattle.rail.specs.Refusal.{train}
+use Rattle.terms.specs.declared.Refusal.{Refusal}
+use Rattle.terms.specs.declared.ListFault.the-variants.{BufferLength}
+use Rattle.terms.specs.declared.ReportFault.the-variants.{NoSuchTrain, NewDelay}
+use Rattle.terms.specs.declared.Refusal.the-variants.{OfList, OfReport}
+use Rattle.terms.specs.declared.Verdict.the-variants.{Refused}
+use Rattle.terms.specs.Refusal.{train}
 use Rattle.sheet.specs.Format.{trainsOf}
 use Rattle.sheet.specs.Accepted.{AcceptedSheet, DelayReplaced}
 use Rattle.cells.specs.Place.{place, InUse}

@@ -17,15 +17,15 @@ use mathlib.Core.Path.{_≡_}
 use mathlib.Core.List.{List}
 use lib.ListN.{replicate}
 use Rattle.lists.specs.Run.{nth, padded}
-use Rattle.rail.specs.declared.Refusal.{Refusal}
-use Rattle.rail.specs.declared.ReportFault.the-variants.{CellOverLimit}
-use Rattle.rail.specs.declared.Refusal.the-variants.{OfReport}
-use Rattle.rail.specs.Refusal.{train}
+use Rattle.terms.specs.declared.Refusal.{Refusal}
+use Rattle.terms.specs.declared.ReportFault.the-variants.{CellOverLimit}
+use Rattle.terms.specs.declared.Refusal.the-variants.{OfReport}
+use Rattle.terms.specs.Refusal.{train}
 use Rattle.line.specs.Policy.{Keep}
 use Rattle.line.specs.Cases.{b4}
 use Rattle.cells.specs.Shown.{shown}
-use Rattle.rail.specs.declared.Answer.{Answer}
-use Rattle.rail.specs.declared.Answer.the-variants.{Refused as AnswerRefused}
+use Rattle.terms.specs.declared.Answer.{Answer}
+use Rattle.terms.specs.declared.Answer.the-variants.{Refused as AnswerRefused}
 use Rattle.planner.specs.Buffers.{Buffers, RightLengths}
 use Rattle.planner.specs.ReportChecks.{FirstOver}
 use Rattle.planner.specs.Plan.{Plan}

@@ -7,12 +7,12 @@ use mathlib.Core.Logic.{inl, inr}
 use mathlib.Core.List.{List, _∷_}
 use lib.ListN.{length}
 use Rattle.lists.proofs.Order.{same-or-not}
-use Rattle.rail.specs.declared.ListFault.the-variants.{BufferLength}
-use Rattle.rail.specs.declared.Refusal.the-variants.{OfList}
-use Rattle.rail.specs.declared.Verdict.{Verdict}
-use Rattle.rail.specs.Refusal.{numberOf}
-use Rattle.rail.specs.Verdict.{numberIn, placeIn}
-use Rattle.rail.proofs.Refusing.{zero-is-fine}
+use Rattle.terms.specs.declared.ListFault.the-variants.{BufferLength}
+use Rattle.terms.specs.declared.Refusal.the-variants.{OfList}
+use Rattle.terms.specs.declared.Verdict.{Verdict}
+use Rattle.terms.specs.Refusal.{numberOf}
+use Rattle.terms.specs.Verdict.{numberIn, placeIn}
+use Rattle.terms.proofs.Refusing.{zero-is-fine}
 use Rattle.oblachura.specs.Call.{Told, Call}
 use Rattle.oblachura.specs.CallPromises.{One, Returns}
 

@@ -6,11 +6,11 @@ use mathlib.Core.Logic.{inl, inr}
 use mathlib.Core.List.{List, _∷_, []}
 use lib.ListN.{length}
 use Rattle.lists.proofs.Order.{same-or-not}
-use Rattle.rail.specs.declared.Verdict.{Verdict}
-use Rattle.rail.specs.declared.Answer.{Answer}
-use Rattle.rail.specs.Verdict.{numberIn, placeIn}
-use Rattle.rail.specs.Answer.{answerNumber, answerCarries}
-use Rattle.rail.proofs.Checks.{fine-or-refused, if-fine, if-refused}
+use Rattle.terms.specs.declared.Verdict.{Verdict}
+use Rattle.terms.specs.declared.Answer.{Answer}
+use Rattle.terms.specs.Verdict.{numberIn, placeIn}
+use Rattle.terms.specs.Answer.{answerNumber, answerCarries}
+use Rattle.terms.proofs.Checks.{fine-or-refused, if-fine, if-refused}
 use Rattle.line.specs.Line.{lineFrom}
 use Rattle.prepare.specs.LineOf.{lineOf}
 use Rattle.planner.specs.Buffers.{Buffers}

@@ -8,15 +8,15 @@ use mathlib.Core.List.{List, _∷_, []}
 use lib.ListN.{length}
 use Rattle.lists.proofs.Order.{same-or-not}
 use Rattle.bits.specs.Field.{Bytes}
-use Rattle.rail.specs.declared.ListFault.the-variants.{BufferLength}
-use Rattle.rail.specs.declared.Refusal.the-variants.{OfList}
-use Rattle.rail.specs.Refusal.{numberOf}
+use Rattle.terms.specs.declared.ListFault.the-variants.{BufferLength}
+use Rattle.terms.specs.declared.Refusal.the-variants.{OfList}
+use Rattle.terms.specs.Refusal.{numberOf}
 use Rattle.sheet.specs.Accepted.{AcceptedSheet}
 use Rattle.sheet.specs.Numbers.{numbersOf}
 use Rattle.prepare.specs.LineOf.{lineOf}
 use Rattle.planner.specs.Buffers.{Buffers}
-use Rattle.rail.specs.declared.Answer.{Answer}
-use Rattle.rail.specs.Answer.{answerNumber, answerPlace}
+use Rattle.terms.specs.declared.Answer.{Answer}
+use Rattle.terms.specs.Answer.{answerNumber, answerPlace}
 use Rattle.planner.specs.Plan.{Plan}
 use Rattle.planner.proofs.Outcome.{plan-outcome-one, report-outcome-one}
 use Rattle.demands.specs.Calling.{Right}

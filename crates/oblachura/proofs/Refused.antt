@@ -4,14 +4,14 @@ use Prim.Native.Nat.{ℕ}
 use native.Mathlib.Omega.{arith}
 use mathlib.Core.Path.{_≡_, ap, sym, _∙_}
 use mathlib.Core.Logic.{inl, inr}
-use Rattle.rail.specs.declared.Refusal.{Refusal}
-use Rattle.rail.specs.declared.Verdict.{Verdict}
-use Rattle.rail.specs.declared.Answer.{Answer}
-use Rattle.rail.specs.Refusal.{numberOf}
-use Rattle.rail.specs.Verdict.{numberIn}
-use Rattle.rail.specs.Answer.{answerNumber}
-use Rattle.rail.proofs.Checks.{fine-or-refused}
-use Rattle.rail.proofs.Refusing.{numbered}
+use Rattle.terms.specs.declared.Refusal.{Refusal}
+use Rattle.terms.specs.declared.Verdict.{Verdict}
+use Rattle.terms.specs.declared.Answer.{Answer}
+use Rattle.terms.specs.Refusal.{numberOf}
+use Rattle.terms.specs.Verdict.{numberIn}
+use Rattle.terms.specs.Answer.{answerNumber}
+use Rattle.terms.proofs.Checks.{fine-or-refused}
+use Rattle.terms.proofs.Refusing.{numbered}
 use Rattle.planner.specs.Buffers.{Buffers, RefusedFor}
 use Rattle.planner.specs.Outcome.{Outcome}
 use Rattle.planner.proofs.Outcome.{outcome-number}

@@ -7,8 +7,8 @@ use Prim.Native.Nat.{ℕ}
 use mathlib.Core.List.{List, _∷_, []}
 use Rattle.reader.specs.declared.Reading.{Reading}
 use Rattle.reader.specs.Reading.{readNumber, readPlace, readTrains, readPeriod}
-use Rattle.rail.specs.declared.Answer.{Answer}
-use Rattle.rail.specs.Answer.{answerNumber, answerPlace, answerCarries}
+use Rattle.terms.specs.declared.Answer.{Answer}
+use Rattle.terms.specs.Answer.{answerNumber, answerPlace, answerCarries}
 
 abbrev pub readNumbers : Reading → List ℕ
 readNumbers a = readNumber a ∷ readPlace a ∷ readTrains a ∷ readPeriod a ∷ []

@@ -10,9 +10,9 @@ use Prim.Native.Nat.{ℕ}
 use mathlib.Core.Path.{_≡_}
 use mathlib.Core.List.{List}
 use lib.ListN.{length}
-use Rattle.rail.specs.declared.ListFault.the-variants.{BufferLength}
-use Rattle.rail.specs.declared.Refusal.the-variants.{OfList}
-use Rattle.rail.specs.Refusal.{numberOf}
+use Rattle.terms.specs.declared.ListFault.the-variants.{BufferLength}
+use Rattle.terms.specs.declared.Refusal.the-variants.{OfList}
+use Rattle.terms.specs.Refusal.{numberOf}
 
 -- Done a: what the operation promises where it answers a
 pub record Told {A : Type 0} (number : A → ℕ) (numbers : A → List ℕ) (Done : A → Type 0) (stored : List ℕ) (r : ℕ)

@@ -11,9 +11,9 @@ use Prim.Native.Nat.{ℕ}
 use mathlib.Core.Path.{_≡_}
 use mathlib.Core.List.{List, _∷_, []}
 use lib.ListN.{length}
-use Rattle.rail.specs.declared.Verdict.{Verdict}
-use Rattle.rail.specs.declared.Verdict.the-variants.{Fine}
-use Rattle.rail.specs.Verdict.{ifFine, numberIn, placeIn}
+use Rattle.terms.specs.declared.Verdict.{Verdict}
+use Rattle.terms.specs.declared.Verdict.the-variants.{Fine}
+use Rattle.terms.specs.Verdict.{ifFine, numberIn, placeIn}
 use Rattle.line.specs.Policy.{total}
 use Rattle.sheet.specs.Format.{trainsOf, periodOf, bytesOf}
 use Rattle.sheet.specs.Numbers.{Lists, numbersOf}

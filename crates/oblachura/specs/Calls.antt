@@ -15,8 +15,8 @@ use Rattle.reader.specs.Reading.{readNumber}
 use Rattle.reader.specs.Read.{Read}
 use Rattle.writer.specs.Write.{Given, Write}
 use Rattle.planner.specs.Buffers.{Buffers}
-use Rattle.rail.specs.declared.Answer.{Answer}
-use Rattle.rail.specs.Answer.{answerNumber}
+use Rattle.terms.specs.declared.Answer.{Answer}
+use Rattle.terms.specs.Answer.{answerNumber}
 use Rattle.planner.specs.Plan.{Plan}
 use Rattle.planner.specs.Report.{Report}
 use Rattle.oblachura.specs.AnswerNumbers.{readNumbers, answerNumbers}

@@ -15,8 +15,8 @@ use crate::telling::tell_reading;
 use crate::telling::wrong_list;
 use planner::plan;
 use planner::report;
-use rail::Train;
 use reader::read;
+use terms::Train;
 use writer::write;
 
 // Reads a sheet into the lent lists; the answer is number, place, m and T.

@@ -2,16 +2,16 @@
 ghost use mathlib.Core.Path.{_≡_};
 ghost use mathlib.Core.List.{_∷_, []};
 ghost use lib.ListN.{length};
-ghost use Rattle.rail.specs.declared.ListFault.the-variants.{BufferLength};
-ghost use Rattle.rail.specs.declared.Refusal.the-variants.{OfList};
-ghost use Rattle.rail.specs.Refusal.{numberOf};
+ghost use Rattle.terms.specs.declared.ListFault.the-variants.{BufferLength};
+ghost use Rattle.terms.specs.declared.Refusal.the-variants.{OfList};
+ghost use Rattle.terms.specs.Refusal.{numberOf};
 ghost use Rattle.reader.specs.Reading.{readNumber};
-ghost use Rattle.rail.specs.Answer.{answerNumber};
+ghost use Rattle.terms.specs.Answer.{answerNumber};
 ghost use Rattle.oblachura.specs.AnswerNumbers.{readNumbers, answerNumbers};
-use rail::Answer;
-use rail::ListFault;
-use rail::Refusal;
 use reader::Reading;
+use terms::Answer;
+use terms::ListFault;
+use terms::Refusal;
 
 // How many numbers read stores, and how many the others.
 pub const READ_ANSWER: usize = 4;

@@ -2,18 +2,17 @@
 -- Assumes nothing.
 use Prim.Native.Nat.{ℕ, _≤_}
 use native.Mathlib.Omega.{arith}
-use mathlib.Core.Path.{_≡_, ap, sym, _∙_}
+use mathlib.Core.Path.{_≡_, sym, _∙_}
 use mathlib.Core.List.{List}
 use lib.Dec.{lit≤}
 use Rattle.bits.specs.Field.{fieldOf, Within}
-use Rattle.rail.proofs.Refusing.{zero-is-fine}
+use Rattle.terms.proofs.Answers.{accepted-answer}
 use Rattle.sheet.specs.Format.{trainsOf}
 use Rattle.sheet.specs.Accepted.{AcceptedSheet}
 use Rattle.sheet.proofs.Lengths.{bytes-bits, layout}
 use Rattle.planner.specs.Buffers.{Buffers}
-use Rattle.rail.specs.declared.Answer.{Answer}
-use Rattle.rail.specs.declared.Answer.the-variants.{Accepted}
-use Rattle.rail.specs.Answer.{answerNumber}
+use Rattle.terms.specs.declared.Answer.{Answer}
+use Rattle.terms.specs.declared.Answer.the-variants.{Accepted}
 use Rattle.planner.specs.Plan.{planVerdict, Plan}
 use Rattle.planner.proofs.Refusals.{accepted-of-plan}
 
@@ -21,8 +20,7 @@ module _ (s : List ℕ) {before after : Buffers} {a : Answer} {n : ℕ} (plan : 
     (accepted : a ≡ Accepted n) where
   sheet-accepted : AcceptedSheet s
   sheet-accepted =
-      let zero = sym (plan .number) ∙ ap answerNumber accepted in
-      accepted-of-plan s before (zero-is-fine (planVerdict s before) zero) .1
+      accepted-of-plan s before (accepted-answer (planVerdict s before) _ (sym accepted ∙ plan .answer) .0) .1
 
   pub head-within : Within s 0 7
   head-within =

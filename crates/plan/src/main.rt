@@ -7,11 +7,11 @@ use bits::field;
 use io::read_full;
 use libc::STDIN_FILENO;
 use planner::plan;
-use rail::Answer;
-use rail::Refusal;
-use rail::Train;
 use sheet::format::TRAINS_AT;
 use sheet::format::TRAINS_WIDTH;
+use terms::Answer;
+use terms::Refusal;
+use terms::Train;
 
 fn print_refusal(refusal: Refusal) {
     say::word(b"refused");

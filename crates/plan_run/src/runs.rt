@@ -5,8 +5,6 @@ use crate::lengths;
 use crate::marks;
 use crate::printed;
 use crate::shown;
-use rail::Answer;
-use rail::Train;
 use records::at_most;
 use records::source;
 use records::source::byte;
@@ -14,6 +12,8 @@ use records::source::long;
 use records::source::number;
 use records::source::short;
 use records::sums;
+use terms::Answer;
+use terms::Train;
 
 // The letter a step begins with.
 const CELL: u32 = 67;

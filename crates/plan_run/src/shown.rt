@@ -1,8 +1,8 @@
 // What plan or report answered and left, as it is printed behind the operation's name.
 ghost use Prim.Native.Nat.{_≤_};
 use crate::printed;
-use rail::Answer;
 use records::sums;
+use terms::Answer;
 
 // The three numbers of the answer.
 pub fn answer(a: Answer) {

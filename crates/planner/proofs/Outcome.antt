@@ -12,16 +12,16 @@ use Rattle.lists.specs.Run.{padded}
 use Rattle.lists.proofs.Choice.{true-or-false, if-yes, if-no}
 use Rattle.lists.proofs.Run.{padded-same}
 use Rattle.bits.proofs.Puts.{put-unique}
-use Rattle.rail.specs.declared.Refusal.{Refusal}
-use Rattle.rail.specs.declared.Verdict.{Verdict}
-use Rattle.rail.specs.declared.Verdict.the-variants.{Fine, Refused}
-use Rattle.rail.specs.declared.Answer.{Answer}
-use Rattle.rail.specs.declared.Answer.the-variants.{Accepted, Refused as AnswerRefused}
-use Rattle.rail.specs.Refusal.{blanksOf}
-use Rattle.rail.specs.Verdict.{numberIn, placeIn}
-use Rattle.rail.specs.Answer.{answerNumber, answerPlace, answerCarries, answerOf}
-use Rattle.rail.proofs.Checks.{refused-not-fine, fine-or-refused}
-use Rattle.rail.proofs.Answers.{answer-number, answer-place}
+use Rattle.terms.specs.declared.Refusal.{Refusal}
+use Rattle.terms.specs.declared.Verdict.{Verdict}
+use Rattle.terms.specs.declared.Verdict.the-variants.{Fine, Refused}
+use Rattle.terms.specs.declared.Answer.{Answer}
+use Rattle.terms.specs.declared.Answer.the-variants.{Accepted, Refused as AnswerRefused}
+use Rattle.terms.specs.Refusal.{blanksOf}
+use Rattle.terms.specs.Verdict.{numberIn, placeIn}
+use Rattle.terms.specs.Answer.{answerNumber, answerPlace, answerCarries, answerOf}
+use Rattle.terms.proofs.Checks.{refused-not-fine, fine-or-refused}
+use Rattle.terms.proofs.Answers.{answer-number, answer-place}
 use Rattle.line.specs.Line.{Line, lineFrom}
 use Rattle.line.specs.Policy.{Policy, arrival}
 use Rattle.line.specs.Cells.{Book, bookOf, decide}
@@ -206,7 +206,8 @@ module _ (s : List ℕ) (i v : ℕ) (before : Buffers) (t t′ : List ℕ) (afte
         let range = replaced-accepted s t i v (told .1) (report .least) (report .most) (reported .sheet)
         (report .delay) .numbers in
         let one = reported-one _ _ (range .trains-most) reported (Q .outcome .accepted e) in
-        (answers-one (reportVerdict s i v before) a a′ (P .outcome .answer) (Q .outcome .answer) (one .0), one .1, one .2)
+        let same = answers-one (reportVerdict s i v before) a a′ (P .outcome .answer) (Q .outcome .answer) (one .0) in
+        (same, one .1, one .2)
     | inr (r, e) ↦ (
       answers-one (reportVerdict s i v before) a a′ (P .outcome .answer) (Q .outcome .answer)
           (refused-carries _ _ _ _ _ (P .outcome) r e ∙ sym (refused-carries _ _ _ _ _ (Q .outcome) r e)),

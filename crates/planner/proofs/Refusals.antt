@@ -7,16 +7,16 @@ use mathlib.Core.List.{List}
 use mathlib.Core.Logic.{_⊎_, inl, inr}
 use Prim.Native.Nat.{ℕ}
 use borrow.Author.Needs.{needs}
-use Rattle.rail.specs.declared.ListFault.the-variants.{BufferLength}
-use Rattle.rail.specs.declared.Refusal.{Refusal}
-use Rattle.rail.specs.declared.Refusal.the-variants.{OfList}
-use Rattle.rail.specs.declared.Verdict.{Verdict}
-use Rattle.rail.specs.declared.Verdict.the-variants.{Fine, Refused}
-use Rattle.rail.specs.Refusal.{blanksOf}
-use Rattle.rail.specs.Verdict.{_andThen_}
-use Rattle.rail.proofs.Checks.{fine-or-refused, then-stop, then-pass, then-fine, fine-then}
-use Rattle.rail.proofs.Checks.{passed-of-fine, fine-of-passed}
-use Rattle.rail.proofs.Refusing.{only-refused, only-of, only-then}
+use Rattle.terms.specs.declared.ListFault.the-variants.{BufferLength}
+use Rattle.terms.specs.declared.Refusal.{Refusal}
+use Rattle.terms.specs.declared.Refusal.the-variants.{OfList}
+use Rattle.terms.specs.declared.Verdict.{Verdict}
+use Rattle.terms.specs.declared.Verdict.the-variants.{Fine, Refused}
+use Rattle.terms.specs.Refusal.{blanksOf}
+use Rattle.terms.specs.Verdict.{_andThen_}
+use Rattle.terms.proofs.Checks.{fine-or-refused, then-stop, then-pass, then-fine, fine-then}
+use Rattle.terms.proofs.Checks.{passed-of-fine, fine-of-passed}
+use Rattle.terms.proofs.Refusing.{only-refused, only-of, only-then}
 use Rattle.sheet.specs.Format.{trainsOf}
 use Rattle.sheet.specs.Checks.{sheetVerdict}
 use Rattle.sheet.specs.Accepted.{AcceptedSheet}
@@ -31,7 +31,8 @@ use Rattle.planner.proofs.Reportable.{reportable-of-fine, fine-of-repor
 
 -- ---- the buffers
 
-pub cells-of-fine : (cells decisions delays : ℕ) → bufferLengthsVerdict cells decisions delays ≡ Fine → cells ≡ cellCount
+pub cells-of-fine : (cells decisions delays : ℕ) → bufferLengthsVerdict cells decisions delays ≡ Fine
+    → cells ≡ cellCount
 unfolding bufferLengthsVerdict
 cells-of-fine cells decisions delays e = passed-of-fine _ e .0
 
@@ -54,7 +55,8 @@ module _ (b : Buffers) (w : Verdict) where
   checks-right right = sym (then-pass _ w _ (fine-of-right b right) refl)
 
   -- with others they are refused for their length
-  pub checks-wrong : (r : Refusal) → buffersVerdict b ≡ Refused r → buffersVerdict b andThen w ≡ Refused (OfList BufferLength)
+  pub checks-wrong : (r : Refusal) → buffersVerdict b ≡ Refused r
+      → buffersVerdict b andThen w ≡ Refused (OfList BufferLength)
   checks-wrong r e =
       sym (then-stop (buffersVerdict b) w refl (sym e)) ∙ ap Refused (sym (buffers-refusal b r e))
 
@@ -67,7 +69,8 @@ module _ (b : Buffers) (w : Verdict) where
   right-or-unwritten r e = elim (fine-or-refused (buffersVerdict b)) [
     | inl fine ↦ inl (right-of-fine b fine)
     | inr (q, wrong) ↦
-        inr (only-refused (λ (x : Refusal). blanksOf x ≡ false) (OfList BufferLength) refl r (sym (checks-wrong q wrong) ∙ e))
+        inr (only-refused (λ (x : Refusal). blanksOf x ≡ false) (OfList BufferLength) refl r
+        (sym (checks-wrong q wrong) ∙ e))
   ]
 
 -- ---- plan

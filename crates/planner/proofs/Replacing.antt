@@ -37,7 +37,8 @@ module _ (s : List ℕ) (i v : ℕ) (ok : AcceptedSheet s) (least : 1 ≤ i) (mo
     pub replaced-timing : (timing : List ℕ) → TimingOf (numbersOf s) timing
         → TimingOf (numbersOf t) (set timing (placeOfSource i) v)
     replaced-timing timing times =
-        timing-of-same _ _ same _ (timing-with-delay (numbersOf s) i v timing least most (ok .numbers .trains-most) times)
+        timing-of-same _ _ same _
+        (timing-with-delay (numbersOf s) i v timing least most (ok .numbers .trains-most) times)
 
     -- nobody boards or leaves elsewhere for it
     pub replaced-sums : (sums : List ℕ) → SumsOf (numbersOf s) sums → SumsOf (numbersOf t) sums

@@ -8,14 +8,14 @@ use mathlib.Core.Logic.{_⊎_, inl, inr}
 use Prim.Native.Nat.{ℕ, _+_, _-_, _≤_, _<_}
 use borrow.Author.Needs.{needs}
 use native.Mathlib.Omega.{arith}
-use Rattle.rail.specs.declared.ReportFault.the-variants.{NoSuchTrain, NewDelay, CellOverLimit}
-use Rattle.rail.specs.declared.Refusal.{Refusal}
-use Rattle.rail.specs.declared.Refusal.the-variants.{OfReport}
-use Rattle.rail.specs.declared.Verdict.the-variants.{Fine, Refused}
-use Rattle.rail.specs.Refusal.{train, blanksOf}
-use Rattle.rail.proofs.Checks.{fine-or-refused, then-stop, then-pass, then-fine, fine-then, hit, miss}
-use Rattle.rail.proofs.Checks.{passed-of-fine, fine-of-passed, first-fine, fine-first, first-refused}
-use Rattle.rail.proofs.Refusing.{only-of, only-then, only-first}
+use Rattle.terms.specs.declared.ReportFault.the-variants.{NoSuchTrain, NewDelay, CellOverLimit}
+use Rattle.terms.specs.declared.Refusal.{Refusal}
+use Rattle.terms.specs.declared.Refusal.the-variants.{OfReport}
+use Rattle.terms.specs.declared.Verdict.the-variants.{Fine, Refused}
+use Rattle.terms.specs.Refusal.{train, blanksOf}
+use Rattle.terms.proofs.Checks.{fine-or-refused, then-stop, then-pass, then-fine, fine-then, hit, miss}
+use Rattle.terms.proofs.Checks.{passed-of-fine, fine-of-passed, first-fine, fine-first, first-refused}
+use Rattle.terms.proofs.Refusing.{only-of, only-then, only-first}
 use Rattle.line.specs.Ranges.{limit}
 use Rattle.cells.specs.Place.{tableOf}
 use Rattle.cells.specs.Book.{LaterInRange}

@@ -4,8 +4,8 @@
 use mathlib.Core.Path.{_≡_, sym, subst, _∙_}
 use mathlib.Core.List.{List}
 use Prim.Native.Nat.{ℕ}
-use Rattle.rail.specs.declared.Verdict.{Verdict}
-use Rattle.rail.specs.declared.Verdict.the-variants.{Fine}
+use Rattle.terms.specs.declared.Verdict.{Verdict}
+use Rattle.terms.specs.declared.Verdict.the-variants.{Fine}
 use Rattle.line.specs.Cells.{bookOf}
 use Rattle.sheet.specs.Format.{trainsOf, periodOf}
 use Rattle.sheet.specs.Numbers.{Numbers}

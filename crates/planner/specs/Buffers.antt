@@ -1,5 +1,5 @@
--- The lent buffers of plan and report, and what a refusal leaves of them. Document 01, "Four operations" and "Numbers of
--- refusal".
+-- The lent buffers of plan and report, and what a refusal leaves of them. Document 01, "Four operations" and "Numbers
+-- of refusal".
 --   Buffers                    the working cells, the decision bytes and the delays, as they are lent or left
 --   buffers c d y              these three lists as one
 --   RightLengths b             they have the lengths that document 01 states
@@ -12,12 +12,12 @@ use mathlib.Core.Path.{_≡_}
 use mathlib.Core.Bool.{true, false}
 use mathlib.Core.List.{List, [], _∷_}
 use lib.ListN.{length, replicate}
-use Rattle.rail.specs.declared.ListFault.the-variants.{BufferLength}
-use Rattle.rail.specs.declared.Refusal.{Refusal}
-use Rattle.rail.specs.declared.Refusal.the-variants.{OfList}
-use Rattle.rail.specs.declared.Verdict.{Verdict}
-use Rattle.rail.specs.Refusal.{blanksOf}
-use Rattle.rail.specs.Verdict.{refuse_unless_is_, verdictOf}
+use Rattle.terms.specs.declared.ListFault.the-variants.{BufferLength}
+use Rattle.terms.specs.declared.Refusal.{Refusal}
+use Rattle.terms.specs.declared.Refusal.the-variants.{OfList}
+use Rattle.terms.specs.declared.Verdict.{Verdict}
+use Rattle.terms.specs.Refusal.{blanksOf}
+use Rattle.terms.specs.Verdict.{refuse_unless_is_, verdictOf}
 use Rattle.cells.specs.Place.{cellCount}
 
 pub record Buffers : Type 0 where

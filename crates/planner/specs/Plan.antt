@@ -7,9 +7,9 @@ use mathlib.Core.Path.{_≡_}
 use mathlib.Core.List.{List}
 use Prim.Native.Nat.{ℕ}
 use Rattle.lists.specs.Run.{padded}
-use Rattle.rail.specs.declared.Verdict.{Verdict}
-use Rattle.rail.specs.declared.Answer.{Answer}
-use Rattle.rail.specs.Verdict.{_andThen_}
+use Rattle.terms.specs.declared.Verdict.{Verdict}
+use Rattle.terms.specs.declared.Answer.{Answer}
+use Rattle.terms.specs.Verdict.{_andThen_}
 use Rattle.line.specs.Line.{Line}
 use Rattle.line.specs.Policy.{Policy, arrival, total}
 use Rattle.line.specs.Plan.{IsPlan}

@@ -7,11 +7,11 @@
 use Prim.Native.Nat.{ℕ}
 use mathlib.Core.Path.{_≡_}
 use mathlib.Core.List.{List}
-use Rattle.rail.specs.declared.Refusal.{Refusal}
-use Rattle.rail.specs.declared.Verdict.{Verdict}
-use Rattle.rail.specs.declared.Verdict.the-variants.{Refused}
-use Rattle.rail.specs.declared.Answer.{Answer}
-use Rattle.rail.specs.Verdict.{_andThen_}
+use Rattle.terms.specs.declared.Refusal.{Refusal}
+use Rattle.terms.specs.declared.Verdict.{Verdict}
+use Rattle.terms.specs.declared.Verdict.the-variants.{Refused}
+use Rattle.terms.specs.declared.Answer.{Answer}
+use Rattle.terms.specs.Verdict.{_andThen_}
 use Rattle.line.specs.Cells.{bookOf}
 use Rattle.sheet.specs.Format.{trainsOf}
 use Rattle.sheet.specs.Numbers.{numbersOf}

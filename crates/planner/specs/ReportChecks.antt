@@ -9,11 +9,11 @@
 -- Assumes nothing.
 use Prim.Native.Nat.{ℕ, _+_, _-_, _≤_, _<_}
 use mathlib.Core.List.{List, [], _∷_}
-use Rattle.rail.specs.declared.ReportFault.the-variants.{NoSuchTrain, NewDelay, CellOverLimit}
-use Rattle.rail.specs.declared.Refusal.the-variants.{OfReport}
-use Rattle.rail.specs.declared.Verdict.{Verdict}
-use Rattle.rail.specs.Refusal.{train}
-use Rattle.rail.specs.Verdict.{Check, refuse_when_below_, verdictOf, _andThen_, firstOf}
+use Rattle.terms.specs.declared.ReportFault.the-variants.{NoSuchTrain, NewDelay, CellOverLimit}
+use Rattle.terms.specs.declared.Refusal.the-variants.{OfReport}
+use Rattle.terms.specs.declared.Verdict.{Verdict}
+use Rattle.terms.specs.Refusal.{train}
+use Rattle.terms.specs.Verdict.{Check, refuse_when_below_, verdictOf, _andThen_, firstOf}
 use Rattle.line.specs.Ranges.{limit}
 use Rattle.cells.specs.Place.{tableOf}
 use Rattle.cells.specs.Book.{LaterInRange}

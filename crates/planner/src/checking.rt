@@ -3,7 +3,7 @@
 ghost use mathlib.Core.Path.{_≡_};
 ghost use Prim.Native.Nat.{_≤_};
 ghost use lib.ListN.{length};
-ghost use Rattle.rail.specs.Verdict.{verdictOf, _andThen_};
+ghost use Rattle.terms.specs.Verdict.{verdictOf, _andThen_};
 ghost use Rattle.sheet.specs.Format.{trainsOf};
 ghost use Rattle.sheet.specs.Checks.{sheetVerdict};
 ghost use Rattle.cells.specs.Place.{cellCount};
@@ -13,13 +13,13 @@ ghost use Rattle.planner.specs.ReportChecks.{rowVerdict, laterVerdict, r
 ghost use Rattle.planner.specs.ReportChecks.{ownVerdict};
 use cells::place::cell_at;
 use prepare::prepare;
-use rail::ListFault;
-use rail::Refusal;
-use rail::ReportFault;
-use rail::Station;
-use rail::Train;
-use rail::Verdict;
 use reader::Reading;
+use terms::ListFault;
+use terms::Refusal;
+use terms::ReportFault;
+use terms::Station;
+use terms::Train;
+use terms::Verdict;
 
 // No total can pass this many passenger-minutes: 2,080 pairs × 10,000 × 64 × 1,440.
 const LIMIT: u64 = 1916928000000;

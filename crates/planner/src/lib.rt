@@ -7,7 +7,7 @@ mod settling;
 ghost use mathlib.Core.Path.{_≡_};
 ghost use lib.ListN.{length, replicate};
 ghost use Rattle.lists.specs.Choice.{if_then_else_};
-ghost use Rattle.rail.specs.Refusal.{blanksOf};
+ghost use Rattle.terms.specs.Refusal.{blanksOf};
 ghost use Rattle.sheet.specs.Accepted.{DelayReplaced};
 ghost use Rattle.planner.specs.Buffers.{buffers};
 ghost use Rattle.planner.specs.Plan.{Plan};
@@ -20,11 +20,11 @@ use bits::put;
 use cells::timing::set_source;
 use lists::fill_u8;
 use lists::fill_u32;
-use rail::Answer;
-use rail::Refusal;
-use rail::Train;
 use reader::Reading;
 use sheet::format::Column;
+use terms::Answer;
+use terms::Refusal;
+use terms::Train;
 
 // A blanked decision byte: neither keep nor go.
 const BLANK: u8 = 2;

@@ -6,8 +6,8 @@ ghost use Rattle.planner.specs.Settled.{Settled};
 ghost use Rattle.planner.specs.Workable.{Workable};
 use cells::place::cell_at;
 use cells::sums::boarders;
-use rail::Train;
 use rows::work_rows;
+use terms::Train;
 use walk::follow;
 
 // Works the rows of `last` and of the trains before it, fills decisions and delays as read off the

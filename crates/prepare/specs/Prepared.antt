@@ -11,8 +11,8 @@ use mathlib.Core.Path.{_≡_}
 use mathlib.Core.List.{List}
 use lib.ListN.{length}
 use Rattle.line.specs.Sum.{sum_from_to_}
-use Rattle.rail.specs.declared.Verdict.{Verdict}
-use Rattle.rail.specs.declared.Verdict.the-variants.{Fine}
+use Rattle.terms.specs.declared.Verdict.{Verdict}
+use Rattle.terms.specs.declared.Verdict.the-variants.{Fine}
 use Rattle.sheet.specs.Format.{trainsOf, periodOf}
 use Rattle.sheet.specs.Numbers.{Times, Numbers, numbersOf}
 use Rattle.sheet.specs.Pairs.{passengersOfPair}

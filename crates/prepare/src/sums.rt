@@ -6,9 +6,9 @@ ghost use Rattle.sheet.specs.Pairs.{IsPair};
 ghost use Rattle.prepare.specs.Prepared.{HoldsSums};
 ghost use Rattle.prepare.specs.Preparing.{pairIn, FieldsGiven};
 use cells::sums::place_of_sum;
-use rail::Station;
-use rail::Train;
 use sheet::format::field_of_pair;
+use terms::Station;
+use terms::Train;
 
 // Those who board at one station and leave at another.
 fn pair(passengers: &[u32], m: u32, from: Station, to: Station) -> u32

@@ -9,7 +9,7 @@ ghost use Rattle.prepare.specs.Preparing.{SlackGiven, TrainGiven};
 use cells::timing::set_period;
 use cells::timing::set_slack;
 use cells::timing::set_source;
-use rail::Train;
+use terms::Train;
 
 // The slack at the station that a train leaves: its departure less that of its feeder less the
 // feeder's driving time. Train 1 has no feeder: 0, which nothing reads.

@@ -5,9 +5,9 @@ use mathlib.Core.List.{List}
 use mathlib.Core.Logic.{inl, inr}
 use Prim.Native.Nat.{ℕ}
 use native.Mathlib.Omega.{arith}
-use Rattle.rail.specs.declared.Refusal.{Refusal}
-use Rattle.rail.specs.declared.Verdict.the-variants.{Fine}
-use Rattle.rail.proofs.Checks.{fine-or-refused, refused-not-fine, then-stop, then-pass, then-fine}
+use Rattle.terms.specs.declared.Refusal.{Refusal}
+use Rattle.terms.specs.declared.Verdict.the-variants.{Fine}
+use Rattle.terms.proofs.Checks.{fine-or-refused, refused-not-fine, then-stop, then-pass, then-fine}
 use Rattle.sheet.specs.Format.{trainsOf, periodOf, bytesOf}
 use Rattle.sheet.specs.Numbers.{Lists, numbersOf, numbersIn}
 use Rattle.sheet.specs.Checks.{headVerdict, bodyVerdict, sheetVerdict}

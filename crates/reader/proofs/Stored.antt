@@ -5,11 +5,11 @@ use mathlib.Core.List.{List}
 use Prim.Native.Nat.{ℕ}
 use lib.ListN.{replicate}
 use Rattle.lists.proofs.Fill.{filled-padded}
-use Rattle.rail.specs.declared.Refusal.{Refusal}
-use Rattle.rail.specs.declared.Verdict.{Verdict}
-use Rattle.rail.specs.declared.Verdict.the-variants.{Refused}
-use Rattle.rail.specs.Verdict.{ifFine, numberIn, placeIn}
-use Rattle.rail.proofs.Checks.{if-fine, if-refused, then-pass}
+use Rattle.terms.specs.declared.Refusal.{Refusal}
+use Rattle.terms.specs.declared.Verdict.{Verdict}
+use Rattle.terms.specs.declared.Verdict.the-variants.{Refused}
+use Rattle.terms.specs.Verdict.{ifFine, numberIn, placeIn}
+use Rattle.terms.proofs.Checks.{if-fine, if-refused, then-pass}
 use Rattle.sheet.specs.Format.{trainsOf, periodOf}
 use Rattle.sheet.specs.Numbers.{Lists, lists}
 use Rattle.sheet.specs.Checks.{sheetVerdict}

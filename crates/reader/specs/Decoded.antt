@@ -11,8 +11,8 @@ use mathlib.Core.List.{List}
 use lib.ListN.{length}
 use Rattle.bits.specs.Field.{Within}
 use Rattle.lists.specs.Filled.{Filled}
-use Rattle.rail.specs.declared.Refusal.{Refusal}
-use Rattle.rail.specs.declared.Verdict.the-variants.{Fine, Refused}
+use Rattle.terms.specs.declared.Refusal.{Refusal}
+use Rattle.terms.specs.declared.Verdict.the-variants.{Fine, Refused}
 use Rattle.sheet.specs.declared.format.Column.{Column}
 use Rattle.sheet.specs.Format.{trainsOf, periodOf, departureColumn, drivingColumn, delayColumn, passengerColumn}
 use Rattle.sheet.specs.Format.{entry, bytesOf, pairsOf}

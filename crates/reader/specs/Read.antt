@@ -6,10 +6,10 @@ use Prim.Native.Nat.{ℕ}
 use mathlib.Core.Path.{_≡_}
 use mathlib.Core.List.{List}
 use Rattle.lists.specs.Run.{padded}
-use Rattle.rail.specs.declared.ListFault.the-variants.{BufferLength}
-use Rattle.rail.specs.declared.Refusal.the-variants.{OfList}
-use Rattle.rail.specs.declared.Verdict.{Verdict}
-use Rattle.rail.specs.Verdict.{_andThen_, ifFine}
+use Rattle.terms.specs.declared.ListFault.the-variants.{BufferLength}
+use Rattle.terms.specs.declared.Refusal.the-variants.{OfList}
+use Rattle.terms.specs.declared.Verdict.{Verdict}
+use Rattle.terms.specs.Verdict.{_andThen_, ifFine}
 use Rattle.sheet.specs.Format.{trainsOf, periodOf, departureOf, drivingOf, delayOf, passengersOf, pairsOf}
 use Rattle.sheet.specs.Numbers.{Lists}
 use Rattle.sheet.specs.Checks.{lengthsVerdict, sheetVerdict}

@@ -3,9 +3,9 @@
 --   readingOf v m T     the answer by the verdict v
 -- Assumes nothing.
 use Prim.Native.Nat.{ℕ}
-use Rattle.rail.specs.declared.Verdict.{Verdict}
-use Rattle.rail.specs.declared.Verdict.the-variants.{Fine, Refused}
-use Rattle.rail.specs.Refusal.{numberOf, placeOf}
+use Rattle.terms.specs.declared.Verdict.{Verdict}
+use Rattle.terms.specs.declared.Verdict.the-variants.{Fine, Refused}
+use Rattle.terms.specs.Refusal.{numberOf, placeOf}
 use Rattle.reader.specs.declared.Reading.{Reading}
 use Rattle.reader.specs.declared.Reading.the-variants.{Accepted, Refused as ReadRefused}
 

@@ -11,9 +11,6 @@ ghost use Rattle.reader.specs.Reading.{readingOf};
 ghost use Rattle.reader.specs.Decoded.{ColumnRoom, Head, ColumnsRead, Body, Decoded};
 use crate::Reading;
 use bits::field;
-use rail::HeadFault;
-use rail::Refusal;
-use rail::Verdict;
 use sheet::checks::check_numbers;
 use sheet::checks::check_ranges;
 use sheet::format::Column;
@@ -24,6 +21,9 @@ use sheet::format::TRAINS_WIDTH;
 use sheet::format::bits_of;
 use sheet::format::bytes_of;
 use sheet::format::pairs_of;
+use terms::HeadFault;
+use terms::Refusal;
+use terms::Verdict;
 
 // Under 3 bytes; m and T; shorter or longer than m demands.
 fn read_head(sheet: &[u8]) -> Reading

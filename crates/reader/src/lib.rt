@@ -10,10 +10,10 @@ ghost use Rattle.reader.specs.Reading.{readNumber, readPlace, readTrains
 ghost use Rattle.reader.specs.Read.{Read};
 use crate::decoding::decode;
 use lists::copy_u32;
-use rail::ListFault;
-use rail::Refusal;
-use rail::Verdict;
 use sheet::checks::check_lengths;
+use terms::ListFault;
+use terms::Refusal;
+use terms::Verdict;
 
 // What read answers: m and T, or why not.
 pub enum Reading {

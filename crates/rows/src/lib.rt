@@ -14,8 +14,8 @@ use cells::costs::go_on;
 use cells::costs::keep_on;
 use cells::place::cell_at;
 use cells::place::place;
-use rail::Station;
-use rail::Train;
+use terms::Station;
+use terms::Train;
 
 // The lesser of the two choices; without an excess only keep is one.
 fn lesser(excess: u64, keep: u64, go: u64) -> u64

@@ -6,9 +6,9 @@ use Prim.Native.Nat.{ℕ, _≤_, zero-le}
 use borrow.Author.Needs.{needs}
 use native.Mathlib.Omega.{arith}
 use lib.ListN.{length}
-use Rattle.rail.specs.declared.Refusal.{Refusal}
-use Rattle.rail.specs.declared.Verdict.the-variants.{Fine}
-use Rattle.rail.proofs.Checks.{then-fine, fine-then, passed-of-fine, fine-of-passed, first-fine, fine-first}
+use Rattle.terms.specs.declared.Refusal.{Refusal}
+use Rattle.terms.specs.declared.Verdict.the-variants.{Fine}
+use Rattle.terms.proofs.Checks.{then-fine, fine-then, passed-of-fine, fine-of-passed, first-fine, fine-first}
 use Rattle.sheet.specs.Format.{trainsOf, periodOf, bytesOf}
 use Rattle.sheet.specs.Numbers.{Times, Numbers, Lists, numbersOf}
 use Rattle.sheet.specs.Checks.{lengthsVerdict, rangesVerdict, trainChecks, trainVerdict, passengersVerdict}

@@ -9,12 +9,12 @@ use Prim.Native.Nat.{ℕ, _+_, _-_, _*_, _≤_}
 use borrow.Author.Needs.{needs}
 use native.Mathlib.Omega.{arith}
 use lib.Dec.{eqb}
-use Rattle.rail.specs.declared.Refusal.{Refusal}
-use Rattle.rail.specs.declared.Verdict.the-variants.{Refused}
-use Rattle.rail.specs.Refusal.{numberOf, blanksOf}
-use Rattle.rail.specs.Verdict.{numberIn}
-use Rattle.rail.proofs.Checks.{fine-or-refused}
-use Rattle.rail.proofs.Refusing.{Only, Each, only-of, only-then, only-first}
+use Rattle.terms.specs.declared.Refusal.{Refusal}
+use Rattle.terms.specs.declared.Verdict.the-variants.{Refused}
+use Rattle.terms.specs.Refusal.{numberOf, blanksOf}
+use Rattle.terms.specs.Verdict.{numberIn}
+use Rattle.terms.proofs.Checks.{fine-or-refused}
+use Rattle.terms.proofs.Refusing.{Only, Each, only-of, only-then, only-first}
 use Rattle.bits.proofs.Fields.{field-lt}
 use Rattle.sheet.specs.Format.{drivingOf, entry}
 use Rattle.sheet.specs.Numbers.{timesOf}
@@ -30,7 +30,8 @@ abbrev Told : Refusal → Type 0
 Told r = (blanksOf r ≡ true) × (eqb (numberOf r) 13 ≡ false)
 
 pub sheet-refusal : (s : List ℕ) → Only Told (sheetVerdict s)
-unfolding sheetVerdict headVerdict rangesVerdict bodyVerdict numbersVerdict trainVerdict trainChecks passengersVerdict fillingVerdict
+unfolding sheetVerdict headVerdict rangesVerdict bodyVerdict numbersVerdict trainVerdict trainChecks
+    passengersVerdict fillingVerdict
 sheet-refusal s =
     only-then Told _ _
     (only-then Told _ _ (only-of Told _ (search (needs, inr)))

@@ -6,8 +6,8 @@ use Prim.Native.Nat.{ℕ, _≤_}
 use native.Mathlib.Omega.{arith}
 use Rattle.lists.specs.Choice.{ifBelow}
 use Rattle.lists.specs.Run.{runOf}
-use Rattle.rail.specs.declared.Verdict.the-variants.{Fine}
-use Rattle.rail.specs.Verdict.{verdictOf, _andThen_, firstOf}
+use Rattle.terms.specs.declared.Verdict.the-variants.{Fine}
+use Rattle.terms.specs.Verdict.{verdictOf, _andThen_, firstOf}
 use Rattle.bits.specs.Field.{bitAt, fieldOf}
 use Rattle.bits.proofs.Bytes.{bytes-tested}
 use Rattle.sheet.specs.Format.{entry, bitsOf, bytesOf, pairsOf}
@@ -40,7 +40,8 @@ sheet-a =
 
 pub sheet-a-accepted : sheetVerdict sheetA ≡ Fine
 unfolding sheetVerdict headVerdict rangesVerdict bodyVerdict numbersVerdict trainVerdict trainChecks earliestOf
-    passengersVerdict fillingVerdict verdictOf _andThen_ firstOf runOf ifBelow bitAt fieldOf entry bitsOf bytesOf pairsOf
+    passengersVerdict fillingVerdict verdictOf _andThen_ firstOf runOf ifBelow bitAt fieldOf entry bitsOf bytesOf
+    pairsOf
 sheet-a-accepted = refl
 
 -- 9 bytes for m = 1, 26 for m = 3, 3,907 for m = 64

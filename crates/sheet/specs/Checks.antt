@@ -14,13 +14,13 @@ use Prim.Native.Nat.{ℕ, _+_, _-_, _≤_}
 use mathlib.Core.List.{List, [], _∷_}
 use lib.ListN.{length}
 use Rattle.lists.specs.Choice.{ifBelow}
-use Rattle.rail.specs.declared.HeadFault.the-variants.{NoHead, TrainCount, Period, TooShort, TooLong}
-use Rattle.rail.specs.declared.TrainFault.the-variants.{Departure, Driving, SourceDelay, Slack}
-use Rattle.rail.specs.declared.Refusal.{Refusal}
-use Rattle.rail.specs.declared.Refusal.the-variants.{OfHead, OfTrain, Passengers, Filling}
-use Rattle.rail.specs.declared.Verdict.{Verdict}
-use Rattle.rail.specs.Refusal.{train}
-use Rattle.rail.specs.Verdict.{Check, refuse_when_below_, refuse_unless_is_, verdictOf, _andThen_, firstOf}
+use Rattle.terms.specs.declared.HeadFault.the-variants.{NoHead, TrainCount, Period, TooShort, TooLong}
+use Rattle.terms.specs.declared.TrainFault.the-variants.{Departure, Driving, SourceDelay, Slack}
+use Rattle.terms.specs.declared.Refusal.{Refusal}
+use Rattle.terms.specs.declared.Refusal.the-variants.{OfHead, OfTrain, Passengers, Filling}
+use Rattle.terms.specs.declared.Verdict.{Verdict}
+use Rattle.terms.specs.Refusal.{train}
+use Rattle.terms.specs.Verdict.{Check, refuse_when_below_, refuse_unless_is_, verdictOf, _andThen_, firstOf}
 use Rattle.sheet.specs.Format.{trainsOf, periodOf, passengersOf, pairsOf, bytesOf, fillingOf}
 use Rattle.sheet.specs.Numbers.{Times, Lists, timesOf}
 

@@ -4,17 +4,17 @@ ghost use mathlib.Core.Path.{_≡_};
 ghost use Prim.Native.Nat.{_≤_};
 ghost use lib.ListN.{length};
 ghost use Rattle.lists.specs.Run.{nth};
-ghost use Rattle.rail.specs.Verdict.{verdictOf, firstOf};
+ghost use Rattle.terms.specs.Verdict.{verdictOf, firstOf};
 ghost use Rattle.sheet.specs.Numbers.{lists, timesIn};
 ghost use Rattle.sheet.specs.Checks.{lengthsVerdict, rangesVerdict, earliestOf, trainChecks};
 ghost use Rattle.sheet.specs.Checks.{trainVerdict, passengersVerdict, numbersVerdict};
 ghost use Rattle.sheet.specs.Checks.{TrainRoom, Room};
 use crate::format::pairs_of;
-use rail::HeadFault;
-use rail::Refusal;
-use rail::Train;
-use rail::TrainFault;
-use rail::Verdict;
+use terms::HeadFault;
+use terms::Refusal;
+use terms::Train;
+use terms::TrainFault;
+use terms::Verdict;
 
 // The lengths of four lists: `n` for each of the trains' three, `k` for the passengers'.
 pub fn check_lengths(

@@ -4,7 +4,7 @@ ghost use Prim.Native.Nat.{_≤_};
 ghost use Rattle.sheet.specs.Format.{departureColumn, drivingColumn, delayColumn};
 ghost use Rattle.sheet.specs.Format.{passengerColumn, bitsOf, bytesOf, pairsOf};
 ghost use Rattle.sheet.specs.Pairs.{IsPair, fieldOfPair};
-use rail::Station;
+use terms::Station;
 
 // The head: m, then T.
 pub const TRAINS_AT: usize = 0;

@@ -1,10 +1,10 @@
 // Records of write.
-use rail::Answer;
 use records::at_most;
 use records::source::list;
 use records::source::number;
 use records::source::short;
 use records::sums;
+use terms::Answer;
 
 // What every byte of a buffer holds before write.
 pub const BEFORE: u8 = 165;

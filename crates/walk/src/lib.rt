@@ -14,7 +14,7 @@ use cells::place::cell_at;
 use cells::timing::arrives;
 use lists::fill_u8;
 use lists::fill_u32;
-use rail::Train;
+use terms::Train;
 
 // Decisions as document 01 shows them.
 const KEEP: u8 = 1;

@@ -2,8 +2,8 @@
 -- Assumes nothing.
 use mathlib.Core.Path.{_≡_}
 use Prim.Native.Nat.{ℕ}
-use Rattle.rail.specs.declared.Verdict.the-variants.{Fine}
-use Rattle.rail.proofs.Checks.{then-fine, fine-then, passed-of-fine, fine-of-passed}
+use Rattle.terms.specs.declared.Verdict.the-variants.{Fine}
+use Rattle.terms.proofs.Checks.{then-fine, fine-then, passed-of-fine, fine-of-passed}
 use Rattle.sheet.proofs.Facts.{lengths-of-fine, fine-of-lengths, ranges-of-fine, fine-of-ranges, in-range-of-fine}
 use Rattle.sheet.proofs.Facts.{ranges-of-in-range, fine-of-in-range}
 use Rattle.writer.specs.Write.{Given, numbersGiven, writeVerdict, Accepts}

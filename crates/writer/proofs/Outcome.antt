@@ -6,15 +6,15 @@ use mathlib.Core.Logic.{⊎-elim}
 use Prim.Native.Nat.{ℕ}
 use lib.ListN.{length, drop, take-append-drop}
 use lib.Seq.{take-at, drop-at}
-use Rattle.rail.specs.declared.Refusal.{Refusal}
-use Rattle.rail.specs.declared.Verdict.{Verdict}
-use Rattle.rail.specs.declared.Verdict.the-variants.{Fine, Refused}
-use Rattle.rail.specs.declared.Answer.{Answer}
-use Rattle.rail.specs.declared.Answer.the-variants.{Accepted, Refused as AnswerRefused}
-use Rattle.rail.specs.Verdict.{ifFine, numberIn, placeIn}
-use Rattle.rail.specs.Answer.{answerNumber, answerPlace, answerCarries, answerOf}
-use Rattle.rail.proofs.Checks.{refused-not-fine, fine-or-refused}
-use Rattle.rail.proofs.Answers.{answer-number, answer-place, answer-carries}
+use Rattle.terms.specs.declared.Refusal.{Refusal}
+use Rattle.terms.specs.declared.Verdict.{Verdict}
+use Rattle.terms.specs.declared.Verdict.the-variants.{Fine, Refused}
+use Rattle.terms.specs.declared.Answer.{Answer}
+use Rattle.terms.specs.declared.Answer.the-variants.{Accepted, Refused as AnswerRefused}
+use Rattle.terms.specs.Verdict.{ifFine, numberIn, placeIn}
+use Rattle.terms.specs.Answer.{answerNumber, answerPlace, answerCarries, answerOf}
+use Rattle.terms.proofs.Checks.{refused-not-fine, fine-or-refused}
+use Rattle.terms.proofs.Answers.{answer-number, answer-place, answer-carries}
 use Rattle.sheet.specs.Format.{bytesOf}
 use Rattle.sheet.specs.Accepted.{SheetOf}
 use Rattle.sheet.proofs.Meaning.{sheet-of-one}

@@ -9,14 +9,14 @@ use Prim.Native.Nat.{ℕ}
 use mathlib.Core.Path.{_≡_}
 use mathlib.Core.List.{List, [], _∷_}
 use lib.ListN.{length, take, drop}
-use Rattle.rail.specs.declared.Refusal.{Refusal}
-use Rattle.rail.specs.declared.ListFault.the-variants.{BufferLength, ListLength}
-use Rattle.rail.specs.declared.Refusal.the-variants.{OfList}
-use Rattle.rail.specs.declared.Verdict.{Verdict}
-use Rattle.rail.specs.declared.Verdict.the-variants.{Fine, Refused}
-use Rattle.rail.specs.declared.Answer.{Answer}
-use Rattle.rail.specs.Verdict.{refuse_unless_is_, verdictOf, _andThen_}
-use Rattle.rail.specs.Answer.{answerOf}
+use Rattle.terms.specs.declared.Refusal.{Refusal}
+use Rattle.terms.specs.declared.ListFault.the-variants.{BufferLength, ListLength}
+use Rattle.terms.specs.declared.Refusal.the-variants.{OfList}
+use Rattle.terms.specs.declared.Verdict.{Verdict}
+use Rattle.terms.specs.declared.Verdict.the-variants.{Fine, Refused}
+use Rattle.terms.specs.declared.Answer.{Answer}
+use Rattle.terms.specs.Verdict.{refuse_unless_is_, verdictOf, _andThen_}
+use Rattle.terms.specs.Answer.{answerOf}
 use Rattle.sheet.specs.Format.{bytesOf, pairsOf}
 use Rattle.sheet.specs.Numbers.{Numbers, Lists, numbersIn}
 use Rattle.sheet.specs.Checks.{lengthsVerdict, rangesVerdict, numbersVerdict}

@@ -6,15 +6,15 @@ ghost use mathlib.Core.Path.{_≡_};
 ghost use Rattle.sheet.specs.Numbers.{lists};
 ghost use Rattle.writer.specs.Write.{given, writeVerdict, Write};
 use crate::putting::put_sheet;
-use rail::Answer;
-use rail::ListFault;
-use rail::Refusal;
-use rail::Verdict;
 use sheet::checks::check_lengths;
 use sheet::checks::check_numbers;
 use sheet::checks::check_ranges;
 use sheet::format::bytes_of;
 use sheet::format::pairs_of;
+use terms::Answer;
+use terms::ListFault;
+use terms::Refusal;
+use terms::Verdict;
 
 // All checks of write, in their order; `room` is the length of the output.
 fn check_write(

@@ -1,10 +1,9 @@
--- `report` meets its contract: the checks, then the new delay into sheet and times, and the work from the report's train
--- down.
+-- `report` meets its contract: the checks, then the new delay into sheet and times, and the work from its train down.
 -- Assumes nothing.
 use borrow.Author.Needs.{needs}
 use mathlib.Core.Path.{refl, sym, _∙_}
 use native.Mathlib.Omega.{arith}
-use Rattle.rail.proofs.Checks.{refused-not-fine}
+use Rattle.terms.proofs.Checks.{refused-not-fine}
 use Rattle.sheet.specs.Format.{trainsOf}
 use Rattle.sheet.specs.Numbers.{numbersOf}
 use Rattle.sheet.specs.Accepted.{InRange, AcceptedSheet}
@@ -86,7 +85,8 @@ settle-requires c κs =
       record { last = omega (arith, report .most, trains); lengths = ok .0; later = rw trains (report .later) },
       rw (set .set-source .ensures)
           (taken-given (numbersOf _) _ _ _ (in-range put) (trains ∙ sym same)
-          (replaced-timing _ _ _ (ok .1) (report .least) (report .most) _ (put .put-delay .ensures) _ (checked .times fine))
+          (replaced-timing _ _ _ (ok .1) (report .least) (report .most) _ (put .put-delay .ensures) _
+          (checked .times fine))
           (replaced-sums _ _ _ (ok .1) (report .least) (report .most) _ (put .put-delay .ensures) _
           (checked .leavers fine))),
     )

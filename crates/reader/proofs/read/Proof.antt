@@ -2,7 +2,7 @@
 -- Assumes nothing.
 use borrow.Author.Needs.{needs}
 use mathlib.Core.Path.{refl, sym, _∙_}
-use Rattle.rail.proofs.Checks.{then-stop}
+use Rattle.terms.proofs.Checks.{then-stop}
 use Rattle.sheet.proofs.Facts.{lengths-of-fine}
 use Rattle.reader.specs.Read.{readVerdict}
 use Rattle.reader.proofs.Stored.{read-refused}

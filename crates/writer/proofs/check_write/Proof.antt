@@ -4,10 +4,10 @@ use borrow.Author.Needs.{needs}
 use mathlib.Core.Path.{_≡_, refl, sym, ap, _∙_}
 use Prim.Native.Nat.{ℕ}
 use native.Mathlib.Omega.{arith}
-use Rattle.rail.specs.declared.ListFault.the-variants.{ListLength}
-use Rattle.rail.specs.declared.Refusal.the-variants.{OfList}
-use Rattle.rail.specs.declared.Verdict.the-variants.{Fine}
-use Rattle.rail.proofs.Checks.{unlike, alike, no-more, then-stop, then-pass}
+use Rattle.terms.specs.declared.ListFault.the-variants.{ListLength}
+use Rattle.terms.specs.declared.Refusal.the-variants.{OfList}
+use Rattle.terms.specs.declared.Verdict.the-variants.{Fine}
+use Rattle.terms.proofs.Checks.{unlike, fine-of-passed, then-stop, then-pass}
 use Rattle.sheet.specs.Format.{pairsOf}
 use Rattle.sheet.specs.Numbers.{lists}
 use Rattle.sheet.specs.Checks.{lengthsVerdict, rangesVerdict}
@@ -32,7 +32,8 @@ returns c = then-stop _ _ refl (unlike _ _ _ _ (omega arith))
 returns-2 : tie.Need-returns-2
 unfolding writeVerdict
 returns-2 c =
-    then-pass _ _ _ (sym (alike _ _ _ _ _ (omega arith) no-more)) (then-stop _ _ (c .enum-told .given .1) (c .before .before .check-ranges .ensures))
+    then-pass _ _ _ (fine-of-passed _ (omega arith, tt))
+    (then-stop _ _ (c .enum-told .given .1) (c .before .before .check-ranges .ensures))
 
 -- m and T passed
 right-ranges : (c : tie.After-enum-told2) →
@@ -58,7 +59,7 @@ returns-3 : tie.Need-returns-3
 unfolding writeVerdict
 returns-3 c =
     let checked = c .before .before in
-    then-pass _ _ _ (sym (alike _ _ _ _ _ (omega arith) no-more))
+    then-pass _ _ _ (fine-of-passed _ (omega arith, tt))
     (then-pass _ _ _ (right-ranges (checked .before .before))
     (then-stop _ _ (c .enum-told3 .given .1) (lengths-are checked)))
 
@@ -75,7 +76,7 @@ returns-4 : tie.Need-returns-4
 unfolding writeVerdict
 returns-4 c =
     let checked = c .before .before .before in
-    then-pass _ _ _ (sym (alike _ _ _ _ _ (omega arith) no-more))
+    then-pass _ _ _ (fine-of-passed _ (omega arith, tt))
     (then-pass _ _ _ (right-ranges (checked .before .before))
     (then-pass _ _ _ (sym (lengths-are checked) ∙ c .before .enum-told4 .given .1)
     (c .check-numbers .ensures)))

@@ -6,7 +6,7 @@ use Prim.Native.Nat.{_≤_}
 use native.Mathlib.Omega.{arith}
 use lib.ListN.{length}
 use lib.Seq.{length-take-le}
-use Rattle.rail.specs.declared.Verdict.the-variants.{Fine}
+use Rattle.terms.specs.declared.Verdict.the-variants.{Fine}
 use Rattle.sheet.specs.Numbers.{lists}
 use Rattle.sheet.proofs.Lengths.{bytes-le}
 use Rattle.writer.specs.Write.{Given, given, writeVerdict}

@@ -1,6 +1,6 @@
 -- `checking::check_buffers` meets its contract: each answer is the first check that refuses.
 -- Assumes nothing.
-use Rattle.rail.proofs.Checks.{chain}
+use Rattle.terms.proofs.Checks.{chain}
 use Rattle.planner.specs.Buffers.{bufferLengthsVerdict}
 use Rattle.planner.proofs.checking.check_buffers.Statement.{statement}
 use Rattle.planner.proofs.checking.check_buffers.Tie as tie

@@ -1,6 +1,6 @@
 -- `checking::check_numbers` meets its contract: each answer is the first check that refuses.
 -- Assumes nothing.
-use Rattle.rail.proofs.Checks.{chain}
+use Rattle.terms.proofs.Checks.{chain}
 use Rattle.planner.specs.ReportChecks.{reportChecks}
 use Rattle.planner.proofs.checking.check_numbers.Statement.{statement}
 use Rattle.planner.proofs.checking.check_numbers.Tie as tie

@@ -3,7 +3,7 @@
 use borrow.Author.Needs.{needs}
 use mathlib.Core.Path.{sym, _∙_}
 use native.Mathlib.Omega.{arith}
-use Rattle.rail.proofs.Checks.{passed-of-fine, then-stop, then-pass}
+use Rattle.terms.proofs.Checks.{passed-of-fine, then-stop, then-pass}
 use Rattle.planner.specs.ReportChecks.{reportChecks, ownVerdict}
 use Rattle.planner.proofs.checking.check_own.Statement.{statement}
 use Rattle.planner.proofs.checking.check_own.Tie as tie

@@ -2,7 +2,7 @@
 -- Assumes nothing.
 use borrow.Author.Needs.{needs}
 use mathlib.Core.Path.{refl, sym, _∙_}
-use Rattle.rail.proofs.Checks.{then-stop, then-pass}
+use Rattle.terms.proofs.Checks.{then-stop, then-pass}
 use Rattle.sheet.specs.Checks.{sheetVerdict}
 use Rattle.prepare.proofs.Prepares.{prepared-refused}
 use Rattle.planner.proofs.Taken.{prepared-same}

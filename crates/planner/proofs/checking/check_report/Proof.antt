@@ -3,7 +3,7 @@
 use borrow.Author.Needs.{needs}
 use mathlib.Core.Path.{refl, sym, _∙_}
 use native.Mathlib.Omega.{arith}
-use Rattle.rail.proofs.Checks.{then-stop, then-pass, then-fine, then-nothing, then-assoc}
+use Rattle.terms.proofs.Checks.{then-stop, then-pass, then-fine, then-nothing, then-assoc}
 use Rattle.sheet.specs.Checks.{sheetVerdict}
 use Rattle.sheet.proofs.Facts.{accepted-of-fine}
 use Rattle.reader.proofs.ReadingOf.{refused-verdict}

@@ -1,11 +1,12 @@
--- `checking::check_row` meets its contract. Invariant: the cells from column l on are still to be checked. Measure: how many.
+-- `checking::check_row` meets its contract. Invariant: the cells from column l on are still to be checked.
+-- Measure: how many.
 -- Assumes nothing.
 use borrow.Author.Needs.{needs}
 use mathlib.Core.Path.{refl}
 use Prim.Native.Nat.{_+_, _-_}
 use native.Mathlib.Omega.{arith}
-use Rattle.rail.proofs.Checks.{Searching, search-first, search-next, search-stop, search-end, hit, miss}
-use Rattle.rail.proofs.Checks.{no-more}
+use Rattle.terms.proofs.Checks.{Searching, search-first, search-next, search-stop, search-end, hit, miss}
+use Rattle.terms.proofs.Checks.{no-more}
 use Rattle.planner.specs.ReportChecks.{cellVerdict, rowVerdict}
 use Rattle.planner.proofs.checking.check_row.Statement.{statement}
 use Rattle.planner.proofs.checking.check_row.Tie as tie

@@ -1,11 +1,12 @@
--- `checking::check_rows_after` meets its contract. Invariant: the rows from k on are still to be checked. Measure: how many.
+-- `checking::check_rows_after` meets its contract. Invariant: the rows from k on are still to be checked.
+-- Measure: how many.
 -- Assumes nothing.
 use borrow.Author.Needs.{needs}
 use mathlib.Core.Path.{_≡_, _∙_, ap}
 use Prim.Native.Nat.{ℕ, _+_, _-_, _≤_}
 use native.Mathlib.Omega.{arith}
-use Rattle.rail.specs.Verdict.{firstOf}
-use Rattle.rail.proofs.Checks.{Searching, search-first, search-next, search-stop, search-end}
+use Rattle.terms.specs.Verdict.{firstOf}
+use Rattle.terms.proofs.Checks.{Searching, search-first, search-next, search-stop, search-end}
 use Rattle.planner.specs.ReportChecks.{rowVerdict, laterVerdict}
 use Rattle.planner.proofs.checking.check_rows_after.Statement.{statement}
 use Rattle.planner.proofs.checking.check_rows_after.Tie as tie

@@ -2,7 +2,7 @@
 -- Assumes nothing.
 use borrow.Author.Needs.{needs}
 use mathlib.Core.Path.{_≡_, sym, _∙_}
-use Rattle.rail.proofs.Checks.{then-stop, then-pass}
+use Rattle.terms.proofs.Checks.{then-stop, then-pass}
 use Rattle.sheet.specs.Format.{trainsOf, passengersOf}
 use Rattle.sheet.specs.Numbers.{timesOf}
 use Rattle.sheet.specs.Checks.{numbersVerdict, bodyVerdict}

@@ -3,7 +3,7 @@
 use borrow.Author.Needs.{needs}
 use mathlib.Core.Path.{ap, _∙_}
 use native.Mathlib.Omega.{arith}
-use Rattle.rail.proofs.Checks.{hit, miss, no-more}
+use Rattle.terms.proofs.Checks.{hit, miss, no-more}
 use Rattle.sheet.specs.Format.{bitsOf}
 use Rattle.sheet.specs.Checks.{fillingVerdict}
 use Rattle.sheet.proofs.Lengths.{bits-le, bytes-bits}

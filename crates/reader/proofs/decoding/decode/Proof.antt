@@ -2,7 +2,7 @@
 -- Assumes nothing.
 use borrow.Author.Needs.{needs}
 use mathlib.Core.Path.{_≡_, refl, sym, _∙_}
-use Rattle.rail.specs.declared.Verdict.the-variants.{Fine}
+use Rattle.terms.specs.declared.Verdict.the-variants.{Fine}
 use Rattle.sheet.specs.Format.{trainsOf, periodOf}
 use Rattle.sheet.specs.Checks.{headVerdict}
 use Rattle.reader.proofs.ReadingOf.{reading-refused, reading-accepted, accepted-fine}

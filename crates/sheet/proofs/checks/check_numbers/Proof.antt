@@ -3,8 +3,8 @@
 use borrow.Author.Needs.{needs}
 use mathlib.Core.Path.{sym, ap, _∙_}
 use native.Mathlib.Omega.{arith}
-use Rattle.rail.specs.Verdict.{firstOf}
-use Rattle.rail.proofs.Checks.{then-stop, then-pass}
+use Rattle.terms.specs.Verdict.{firstOf}
+use Rattle.terms.proofs.Checks.{then-stop, then-pass}
 use Rattle.sheet.specs.Checks.{passengersVerdict, numbersVerdict}
 use Rattle.sheet.proofs.Lengths.{pairs-le}
 use Rattle.sheet.proofs.checks.check_numbers.Statement.{statement}

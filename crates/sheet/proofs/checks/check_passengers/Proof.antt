@@ -6,7 +6,7 @@ use mathlib.Core.Path.{refl}
 use Prim.Native.Nat.{_+_, _-_}
 use native.Mathlib.Omega.{arith}
 use Rattle.lists.specs.Run.{nth}
-use Rattle.rail.proofs.Checks.{Searching, search-first, search-next, search-stop, search-end, hit, miss, no-more}
+use Rattle.terms.proofs.Checks.{Searching, search-first, search-next, search-stop, search-end, hit, miss, no-more}
 use Rattle.sheet.specs.Checks.{passengersVerdict}
 use Rattle.sheet.proofs.checks.check_passengers.Statement.{statement}
 use Rattle.sheet.proofs.checks.check_passengers.Tie as tie

@@ -4,7 +4,7 @@
 use borrow.Author.Needs.{needs}
 use Prim.Native.Nat.{_+_, _-_}
 use native.Mathlib.Omega.{arith}
-use Rattle.rail.proofs.Checks.{Searching, search-first, search-next, search-stop, search-end}
+use Rattle.terms.proofs.Checks.{Searching, search-first, search-next, search-stop, search-end}
 use Rattle.sheet.specs.Numbers.{timesIn}
 use Rattle.sheet.specs.Checks.{trainVerdict}
 use Rattle.sheet.proofs.checks.check_trains.Statement.{statement}

@@ -10,17 +10,17 @@ use mathlib.Core.Logic.{_⊎_, inl, inr}
 use Prim.Native.Nat.{ℕ, zero, suc, _+_}
 use native.Mathlib.Omega.{arith}
 use Rattle.lists.specs.Run.{runOf}
-use Rattle.rail.specs.declared.ListFault.the-variants.{BufferLength, ListLength}
-use Rattle.rail.specs.declared.HeadFault.the-variants.{NoHead, TrainCount, Period, TooShort, TooLong}
-use Rattle.rail.specs.declared.TrainFault.the-variants.{Departure, Driving, SourceDelay, Slack}
-use Rattle.rail.specs.declared.ReportFault.the-variants.{NoSuchTrain, NewDelay, CellOverLimit}
-use Rattle.rail.specs.declared.Refusal.{Refusal}
-use Rattle.rail.specs.declared.Refusal.the-variants.{OfList, OfHead, OfTrain, Passengers, Filling, OfReport}
-use Rattle.rail.specs.declared.Verdict.{Verdict}
-use Rattle.rail.specs.declared.Verdict.the-variants.{Fine, Refused}
-use Rattle.rail.specs.Refusal.{numberOf, blanksOf}
-use Rattle.rail.specs.Verdict.{Check, verdictOf, _andThen_, firstOf, numberIn}
-use Rattle.rail.proofs.Checks.{Passes, refusalOf, refused-not-fine, check-or-rest}
+use Rattle.terms.specs.declared.ListFault.the-variants.{BufferLength, ListLength}
+use Rattle.terms.specs.declared.HeadFault.the-variants.{NoHead, TrainCount, Period, TooShort, TooLong}
+use Rattle.terms.specs.declared.TrainFault.the-variants.{Departure, Driving, SourceDelay, Slack}
+use Rattle.terms.specs.declared.ReportFault.the-variants.{NoSuchTrain, NewDelay, CellOverLimit}
+use Rattle.terms.specs.declared.Refusal.{Refusal}
+use Rattle.terms.specs.declared.Refusal.the-variants.{OfList, OfHead, OfTrain, Passengers, Filling, OfReport}
+use Rattle.terms.specs.declared.Verdict.{Verdict}
+use Rattle.terms.specs.declared.Verdict.the-variants.{Fine, Refused}
+use Rattle.terms.specs.Refusal.{numberOf, blanksOf}
+use Rattle.terms.specs.Verdict.{Check, verdictOf, _andThen_, firstOf, numberIn}
+use Rattle.terms.proofs.Checks.{Passes, refusalOf, refused-not-fine, check-or-rest}
 
 module _ (P : Refusal → Type 0) where
   abbrev pub Only : Verdict → Type 0

@@ -1,6 +1,6 @@
 -- Laws of checks in their order, as a function that answers a verdict uses them: a test that refused is the answer
--- (`hit`, `unlike`), a test that passed leaves the rest (`miss`, `alike`); and a list of checks is fine exactly when each
--- of them passes.
+-- (`hit`, `unlike`), a test that passed leaves the rest (`miss`, `alike`); and a list of checks is fine exactly when
+-- each of them passes.
 --   Passes c, refusalOf c    the check c finds nothing; what it refuses for
 --   Passed checks            each of them passes
 -- Assumes nothing.
@@ -16,10 +16,11 @@ use Rattle.lists.specs.Run.{runOf}
 use Rattle.lists.proofs.Choice.{below-yes, below-no, same-yes, same-no}
 use Rattle.lists.proofs.Order.{lt-or-ge, zero-not-one}
 use Rattle.lists.proofs.Run.{run-next, run-none}
-use Rattle.rail.specs.declared.Refusal.{Refusal}
-use Rattle.rail.specs.declared.Verdict.{Verdict}
-use Rattle.rail.specs.declared.Verdict.the-variants.{Fine, Refused}
-use Rattle.rail.specs.Verdict.{Check, refuse_when_below_, refuse_unless_is_, verdictOf, _andThen_, firstOf, ifFine}
+use Rattle.terms.specs.declared.Refusal.{Refusal}
+use Rattle.terms.specs.declared.Verdict.{Verdict}
+use Rattle.terms.specs.declared.Verdict.the-variants.{Fine, Refused}
+use Rattle.terms.specs.Verdict.{Check, refuse_when_below_, refuse_unless_is_, verdictOf, _andThen_, firstOf}
+use Rattle.terms.specs.Verdict.{ifFine}
 
 -- ---- a check and those that follow
 
@@ -72,7 +73,8 @@ refusalOf (refuse r unless a is b) = r
 
 -- a check refuses or leaves the rest
 pub check-or-rest : (c : Check) (rest : List Check)
-    → ((Passes c → ⊥) × (verdictOf (c ∷ rest) ≡ Refused (refusalOf c))) ⊎ (Passes c × (verdictOf (c ∷ rest) ≡ verdictOf rest))
+    → ((Passes c → ⊥) × (verdictOf (c ∷ rest) ≡ Refused (refusalOf c)))
+    ⊎ (Passes c × (verdictOf (c ∷ rest) ≡ verdictOf rest))
 unfolding verdictOf
 check-or-rest (refuse r when a below b) rest = elim (lt-or-ge a b) [
   | inl l ↦ inl ((λ p. omega arith), below-yes _ _ l)

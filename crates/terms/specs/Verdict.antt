@@ -12,10 +12,10 @@ use Prim.Native.Nat.{ℕ}
 use mathlib.Core.List.{List, [], _∷_}
 use Rattle.lists.specs.Choice.{ifBelow, ifSame}
 use Rattle.lists.specs.Run.{runOf}
-use Rattle.rail.specs.declared.Refusal.{Refusal}
-use Rattle.rail.specs.Refusal.{numberOf, placeOf}
-use Rattle.rail.specs.declared.Verdict.{Verdict}
-use Rattle.rail.specs.declared.Verdict.the-variants.{Fine, Refused}
+use Rattle.terms.specs.declared.Refusal.{Refusal}
+use Rattle.terms.specs.Refusal.{numberOf, placeOf}
+use Rattle.terms.specs.declared.Verdict.{Verdict}
+use Rattle.terms.specs.declared.Verdict.the-variants.{Fine, Refused}
 
 infixr 20 _andThen_
 infix 30 refuse_when_below_ refuse_unless_is_

@@ -2,8 +2,8 @@
 // what an operation answers. No other crate knows the number or the place of a refusal.
 ghost use mathlib.Core.Path.{_≡_};
 ghost use Prim.Native.Nat.{_+_, _-_, _≤_};
-ghost use Rattle.rail.specs.Refusal.{numberOf, placeOf, blanksOf};
-ghost use Rattle.rail.specs.Answer.{answerNumber, answerPlace, answerCarries};
+ghost use Rattle.terms.specs.Refusal.{numberOf, placeOf, blanksOf};
+ghost use Rattle.terms.specs.Answer.{answerNumber, answerPlace, answerCarries};
 
 // Train i leaves station i and reaches station i + 1.
 pub struct Train(pub u32);

@@ -3,12 +3,12 @@
 use mathlib.Core.Path.{_≡_, refl}
 use Prim.Native.Nat.{ℕ}
 use Rattle.lists.proofs.Order.{zero-not-one}
-use Rattle.rail.specs.declared.Refusal.{Refusal}
-use Rattle.rail.specs.declared.Verdict.{Verdict}
-use Rattle.rail.specs.declared.Verdict.the-variants.{Fine, Refused}
-use Rattle.rail.specs.declared.Answer.the-variants.{Accepted, Refused as AnswerRefused}
-use Rattle.rail.specs.Verdict.{ifFine, numberIn, placeIn}
-use Rattle.rail.specs.Answer.{answerNumber, answerPlace, answerCarries, answerOf}
+use Rattle.terms.specs.declared.Refusal.{Refusal}
+use Rattle.terms.specs.declared.Verdict.{Verdict}
+use Rattle.terms.specs.declared.Verdict.the-variants.{Fine, Refused}
+use Rattle.terms.specs.declared.Answer.the-variants.{Accepted, Refused as AnswerRefused}
+use Rattle.terms.specs.Verdict.{ifFine, numberIn, placeIn}
+use Rattle.terms.specs.Answer.{answerNumber, answerPlace, answerCarries, answerOf}
 
 pub answer-number : (v : Verdict) (n : ℕ) → answerNumber (answerOf v n) ≡ numberIn v
 answer-number Fine n = refl

@@ -6,13 +6,13 @@
 -- Assumes nothing.
 use Prim.Native.Nat.{ℕ}
 use mathlib.Core.Bool.{Bool, true, false}
-use Rattle.rail.specs.declared.Train.{Train}
-use Rattle.rail.specs.declared.ListFault.the-variants.{BufferLength, ListLength}
-use Rattle.rail.specs.declared.HeadFault.the-variants.{NoHead, TrainCount, Period, TooShort, TooLong}
-use Rattle.rail.specs.declared.TrainFault.the-variants.{Departure, Driving, SourceDelay, Slack}
-use Rattle.rail.specs.declared.ReportFault.the-variants.{NoSuchTrain, NewDelay, CellOverLimit}
-use Rattle.rail.specs.declared.Refusal.{Refusal}
-use Rattle.rail.specs.declared.Refusal.the-variants.{OfList, OfHead, OfTrain, Passengers, Filling, OfReport}
+use Rattle.terms.specs.declared.Train.{Train}
+use Rattle.terms.specs.declared.ListFault.the-variants.{BufferLength, ListLength}
+use Rattle.terms.specs.declared.HeadFault.the-variants.{NoHead, TrainCount, Period, TooShort, TooLong}
+use Rattle.terms.specs.declared.TrainFault.the-variants.{Departure, Driving, SourceDelay, Slack}
+use Rattle.terms.specs.declared.ReportFault.the-variants.{NoSuchTrain, NewDelay, CellOverLimit}
+use Rattle.terms.specs.declared.Refusal.{Refusal}
+use Rattle.terms.specs.declared.Refusal.the-variants.{OfList, OfHead, OfTrain, Passengers, Filling, OfReport}
 
 -- the train with this number
 abbrev pub train : ℕ → Train

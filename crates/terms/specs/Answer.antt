@@ -5,11 +5,11 @@
 --   answerOf v n                      the answer by the verdict v, n being what it carries if accepted
 -- Assumes nothing.
 use Prim.Native.Nat.{ℕ}
-use Rattle.rail.specs.Refusal.{numberOf, placeOf}
-use Rattle.rail.specs.declared.Verdict.{Verdict}
-use Rattle.rail.specs.declared.Verdict.the-variants.{Fine, Refused}
-use Rattle.rail.specs.declared.Answer.{Answer}
-use Rattle.rail.specs.declared.Answer.the-variants.{Accepted, Refused as AnswerRefused}
+use Rattle.terms.specs.Refusal.{numberOf, placeOf}
+use Rattle.terms.specs.declared.Verdict.{Verdict}
+use Rattle.terms.specs.declared.Verdict.the-variants.{Fine, Refused}
+use Rattle.terms.specs.declared.Answer.{Answer}
+use Rattle.terms.specs.declared.Answer.the-variants.{Accepted, Refused as AnswerRefused}
 
 abbrev pub answerNumber : Answer → ℕ
 answerNumber (Accepted n) = 0
