@@ -5,10 +5,12 @@ mod checking;
 mod settling;
 
 ghost use mathlib.Core.Path.{_≡_};
-ghost use lib.ListN.{length, replicate};
+ghost use Prim.Native.Nat.{_≤_};
+ghost use lib.ListN.{length, replicate, set};
 ghost use Rattle.lists.specs.Choice.{if_then_else_};
 ghost use Rattle.terms.specs.Refusal.{blanksOf};
 ghost use Rattle.sheet.specs.Accepted.{DelayReplaced};
+ghost use Rattle.cells.specs.Timing.{placeOfSource};
 ghost use Rattle.planner.specs.Buffers.{buffers};
 ghost use Rattle.planner.specs.Plan.{Plan};
 ghost use Rattle.planner.specs.Report.{Report};
@@ -83,6 +85,17 @@ fn put_delay(sheet: &mut [u8], train: Train, delay: u32)
     put(sheet, column.first + column.step * k, column.width, delay);
 }
 
+// Sheet and times take the train's new source delay.
+fn replace_delay(sheet: &mut [u8], timing: &mut [u32], train: Train, delay: u32)
+    requires { ⌜ DelayRoom (now sheet) (train .0) delay × (train .0 ≤ 64)
+        × (length (now timing) ≡ 192) ⌝ }
+    ensures { λ _. ⌜ DelayReplaced (now (sheet .entry)) (train .0) delay (now (sheet .exit))
+        × (now (timing .exit) ≡ set (now (timing .entry)) (placeOfSource (train .0)) delay) ⌝ }
+{
+    put_delay(sheet, train, delay);
+    set_source(timing, train, delay);
+}
+
 // Takes a new source delay of one train: puts it into the sheet, and works anew the rows of that
 // train and of those before it. On cells that a plan left, decisions, delays and answer are then
 // those of a plan of the sheet as it stands. A refusal leaves sheet and cells as they were, and
@@ -116,8 +129,7 @@ pub fn report(
     match checked {
         Reading::Refused(refusal) => refuse(refusal, decisions, delays),
         Reading::Accepted(m, _) => {
-            put_delay(sheet, train, delay);
-            set_source(&mut timing, train, delay);
+            replace_delay(sheet, &mut timing, train, delay);
             Answer::Accepted(settle(m, train, cells, decisions, delays, &timing, &sums))
         }
     }

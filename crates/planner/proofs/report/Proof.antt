@@ -5,22 +5,22 @@ use mathlib.Core.Path.{refl, sym, _∙_}
 use native.Mathlib.Omega.{arith}
 use Rattle.terms.proofs.Checks.{refused-not-fine}
 use Rattle.sheet.specs.Format.{trainsOf}
-use Rattle.sheet.specs.Numbers.{numbersOf}
-use Rattle.sheet.specs.Accepted.{InRange, AcceptedSheet}
-use Rattle.sheet.proofs.Amend.{replaced-numbers, replaced-accepted}
+use Rattle.sheet.specs.Accepted.{AcceptedSheet}
 use Rattle.reader.proofs.ReadingOf.{refused-verdict}
-use Rattle.prepare.specs.Prepared.{TimingOf, SumsOf}
 use Rattle.planner.specs.Buffers.{Buffers, buffers, RightLengths}
 use Rattle.planner.specs.ReportChecks.{Reportable}
 use Rattle.planner.specs.Report.{reportVerdict}
 use Rattle.planner.proofs.Refusals.{right-or-unwritten, afterLengthsVerdict, accepted-of-report}
-use Rattle.planner.proofs.Taken.{taken-fine, taken-trains, taken-given, settled-for}
-use Rattle.planner.proofs.Replacing.{delay-room, replaced-timing, replaced-sums}
+use Rattle.planner.proofs.Taken.{taken-fine, taken-trains}
+use Rattle.planner.proofs.Replacing.{delay-room, replaced-given, replaced-settled}
 use Rattle.planner.proofs.Outcome.{outcome-accepted, outcome-refused, refused-for}
 use Rattle.planner.proofs.report.Statement.{statement}
 use Rattle.planner.proofs.report.Tie as tie
 
--- from the answer of the checks back to them, and from there to the entry
+-- from the sheet as it then stands back to the answer of the checks, to the checks and to the entry
+abbrev told-of : tie.After-replace-delay → tie.After-checked2
+told-of c = c .before .before .before .before
+
 abbrev checks-of : tie.After-checked2 → tie.After-check-report
 checks-of c = c .before .before .before .before
 
@@ -43,52 +43,30 @@ passed c =
     accepted-of-report _ _ _ (lent-to (checks-of c))
     (taken-fine (checks-of c .check-report .ensures) (c .checked2 .given .1))
 
--- the train is one of the sheet's, so that its field lies in the sheet
-put-delay-requires : tie.Need-put-delay-requires
-put-delay-requires c κs =
-    let ok = passed (c .before .before) in
-    delay-room _ _ _ (ok .1) (ok .2 .least) (ok .2 .most) (ok .2 .delay)
-
--- and has a place in the list of times
-set-source-requires : tie.Need-set-source-requires
-set-source-requires c κs =
-    let ok = passed (c .before .before .before .before .before .before) in
-    (ok .2 .least, omega (arith, ok .2 .most, ok .1 .numbers .trains-most), search needs)
-
--- ---- the sheet as it then stands
-
-abbrev told-of : tie.After-put-delay → tie.After-checked2
-told-of c = c .before .before .before
-
-abbrev put-of : tie.After-set-source → tie.After-put-delay
-put-of c = c .before .before .before .before
-
--- its numbers are in range
-in-range : (c : tie.After-put-delay) → InRange (numbersOf (c .put-delay .last .0))
-in-range c =
-    let ok = passed (told-of c) in
-    replaced-accepted _ _ _ _ (ok .1) (ok .2 .least) (ok .2 .most) (c .put-delay .ensures) (ok .2 .delay) .numbers
+-- the train is one of the sheet's, so that its field lies in the sheet and its delay in the list
+replace-delay-requires : tie.Need-replace-delay-requires
+replace-delay-requires c κs =
+    let ok = passed (c .before .before .before) in (
+      delay-room _ _ _ (ok .1) (ok .2 .least) (ok .2 .most) (ok .2 .delay),
+      omega (arith, ok .2 .most, ok .1 .numbers .trains-most),
+      search needs,
+    )
 
 -- the later rows allow the work
 settle-requires : tie.Need-settle-requires
 settle-requires c κs =
-    let set = c .before .before .before .before .before .before in
-    let put = put-of set in
-    let told = told-of put in
+    let replaced = c .before .before .before .before .before .before .before .before in
+    let told = told-of replaced in
     let checked = checks-of told .check-report .ensures in
     let answer = told .checked2 .given .1 in
     let fine = taken-fine checked answer in
     let trains = taken-trains checked answer in
     let ok = passed told in
-    let report = ok .2 in
-    let same = replaced-numbers _ _ _ _ (ok .1) (report .least) (report .most) (put .put-delay .ensures) .trains in (
+    let report = ok .2 in (
       record { last = omega (arith, report .most, trains); lengths = ok .0; later = rw trains (report .later) },
-      rw (set .set-source .ensures)
-          (taken-given (numbersOf _) _ _ _ (in-range put) (trains ∙ sym same)
-          (replaced-timing _ _ _ (ok .1) (report .least) (report .most) _ (put .put-delay .ensures) _
-          (checked .times fine))
-          (replaced-sums _ _ _ (ok .1) (report .least) (report .most) _ (put .put-delay .ensures) _
-          (checked .leavers fine))),
+      rw (replaced .replace-delay .ensures .1)
+          (replaced-given _ _ _ (ok .1) (report .least) (report .most) (report .delay) _
+          (replaced .replace-delay .ensures .0) _ _ _ trains (checked .times fine) (checked .leavers fine)),
     )
 
 -- refused
@@ -114,27 +92,22 @@ returns-2 : tie.Need-returns-2
 unfolding reportVerdict
 returns-2 c =
     let work = c .before .before .before .before .before .before in
-    let set = work .before .before .before .before .before .before .before in
-    let put = put-of set in
-    let told = told-of put in
+    let replaced = work .before .before .before .before .before .before .before .before .before in
+    let told = told-of replaced in
     let checked = checks-of told .check-report .ensures in
     let answer = told .checked2 .given .1 in
     let fine = taken-fine checked answer in
     let ok = passed told in
     let report = ok .2 in
     let lent = lent-to (checks-of told) in
-    let same = replaced-numbers _ _ _ _ (ok .1) (report .least) (report .most) (put .put-delay .ensures) .trains in
-    let settled = rw (set .set-source .ensures) at (work .settle .ensures) in
+    let settled = rw (replaced .replace-delay .ensures .1) at (work .settle .ensures) in
     record {
       outcome = outcome-accepted _ _ lent _ (sym fine)
           (record {
-            sheet = put .put-delay .ensures;
-            settled = settled-for (numbersOf _) _ _ _ (in-range put) (taken-trains checked answer ∙ sym same)
-                (replaced-timing _ _ _ (ok .1) (report .least) (report .most) _ (put .put-delay .ensures) _
-                (checked .times fine))
-                (replaced-sums _ _ _ (ok .1) (report .least) (report .most) _ (put .put-delay .ensures) _
-                (checked .leavers fine))
-                _ lent _ _ settled;
+            sheet = replaced .replace-delay .ensures .0;
+            settled = replaced-settled _ _ _ (ok .1) (report .least) (report .most) (report .delay) _
+                (replaced .replace-delay .ensures .0) _ _ _ (taken-trains checked answer) (checked .times fine)
+                (checked .leavers fine) lent _ _ settled;
           });
       kept = λ r e. refused-not-fine (sym e ∙ fine);
     }
@@ -143,6 +116,6 @@ pub report-spec : {M : Type 1} → statement M
 report-spec =
     tie.close
     (tie.spec (λ c. search needs) (λ c. search needs) (λ c κs. search needs) (λ c. search needs) (λ c κs. search needs)
-    (λ c. search needs) put-delay-requires (λ c. search needs) set-source-requires (λ c. search needs)
-    (λ c. search needs) settle-requires (λ c. search needs) (λ c. search needs) (λ c. search needs) (λ c. search needs)
-    returns (λ c. search needs) (λ c. search needs) (λ c. search needs) (λ c. search needs) returns-2)
+    (λ c. search needs) (λ c. search needs) replace-delay-requires (λ c. search needs) (λ c. search needs)
+    settle-requires (λ c. search needs) (λ c. search needs) (λ c. search needs) (λ c. search needs) returns
+    (λ c. search needs) (λ c. search needs) (λ c. search needs) (λ c. search needs) returns-2)
