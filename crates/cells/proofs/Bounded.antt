@@ -12,7 +12,8 @@ use Rattle.line.proofs.Bounds as bounds
 use Rattle.cells.specs.Place.{tableOf, RowsWorked}
 use Rattle.cells.specs.Timing.{runningIn, TimingGiven}
 use Rattle.cells.specs.Sums.{boardedIn}
-use Rattle.cells.specs.Book.{bookIn, BookGiven, LaterInRange, CellsInRange}
+use Rattle.cells.specs.Book.{bookIn, BookGiven}
+use Rattle.cells.specs.Limits.{LaterInRange, CellsInRange}
 use Rattle.cells.proofs.Places.{table-past}
 use Rattle.cells.proofs.Leavers.{aboard-le}
 

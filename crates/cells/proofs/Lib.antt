@@ -5,3 +5,4 @@ pub mod Bounded
 pub mod Along
 pub mod Written
 pub mod Shown
+pub mod Limited

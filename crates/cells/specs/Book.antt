@@ -2,14 +2,10 @@
 -- working cells".
 --   bookIn m timing sums       the book that the lists make for m trains
 --   BookGiven m timing sums    the lists have their lengths, and their numbers are in range
---   LaterInRange m t cells     every cell in use of the rows after t is at most document 01's limit
---   CellsInRange m cells       every cell in use is
 -- Assumes nothing.
-use Prim.Native.Nat.{ℕ, _≤_, _<_}
+use Prim.Native.Nat.{ℕ, _≤_}
 use mathlib.Core.List.{List}
 use Rattle.line.specs.Cells.{Book}
-use Rattle.line.specs.Ranges.{limit}
-use Rattle.cells.specs.Place.{tableOf}
 use Rattle.cells.specs.Timing.{periodIn, runningIn, TimingGiven}
 use Rattle.cells.specs.Sums.{leavingIn, aboardIn, SumsGiven}
 
@@ -27,9 +23,3 @@ pub record BookGiven (m : ℕ) (timing sums : List ℕ) : Type 0 where
   pub some : 1 ≤ m
   pub times : TimingGiven m timing
   pub leavers : SumsGiven m sums
-
-abbrev pub LaterInRange : ℕ → ℕ → List ℕ → Type 0
-LaterInRange m t cells = (k l : ℕ) → t < k → k ≤ l → l ≤ m → tableOf m cells k l ≤ limit
-
-abbrev pub CellsInRange : ℕ → List ℕ → Type 0
-CellsInRange m cells = LaterInRange m 0 cells

@@ -29,10 +29,10 @@ use Rattle.sheet.proofs.Facts.{fine-of-accepted}
 use Rattle.sheet.proofs.Meaning.{same-sym}
 use Rattle.sheet.proofs.Amend.{replaced-numbers, replaced-accepted}
 use Rattle.cells.specs.Place.{tableOf, InUse}
-use Rattle.cells.specs.Book.{CellsInRange}
+use Rattle.cells.specs.Limits.{CellsInRange}
 use Rattle.cells.proofs.Places.{table-in}
 use Rattle.planner.specs.ReportChecks.{reportChecks, ownVerdict, Reportable}
-use Rattle.planner.proofs.Reportable.{fine-of-later}
+use Rattle.cells.proofs.Limited.{fine-of-later}
 use Rattle.prepare.specs.LineOf.{lineOf}
 use Rattle.planner.specs.Buffers.{Buffers, RightLengths}
 use Rattle.planner.specs.Settled.{Settled}
@@ -135,7 +135,7 @@ module _ (s : List ℕ) (i v : ℕ) (before : Buffers) (standing : Standing s (b
   refusals =
       let P : Refusal → Type 0 = OfItself i in
       let silent : (w : Verdict) → w ≡ Fine → Only P w = λ w fine r e. refused-not-fine (sym e ∙ fine) in
-      let later = fine-of-later (trainsOf s) i v (before .cells)
+      let later = fine-of-later (trainsOf s) i (before .cells)
       (λ k l x y z. within s (before .cells) standing k l (omega arith) y z) in
       only-then P _ _ (λ r e. inl (sym (buffers-refusal before r e)))
       (only-then P (sheetVerdict s) _ (silent _ (fine-of-accepted s (standing .ok)))

@@ -12,7 +12,7 @@ use Rattle.lists.proofs.Run.{padded-nth}
 use Rattle.line.specs.Cases.{b4, b6, b7}
 use Rattle.sheet.proofs.Facts.{accepted-of-fine}
 use Rattle.cells.specs.Shown.{shown}
-use Rattle.planner.specs.ReportChecks.{FirstOver}
+use Rattle.cells.specs.Limits.{FirstOver}
 use Rattle.terms.specs.Answer.{answerCarries}
 use Rattle.demands.specs.Sheets.{sheetB, decisionBytes}
 use Rattle.demands.specs.Useless.{RefusesAllBreaks, SameDecisionsBreak, AllKeepBreaks, DoesNothingBreaks}

@@ -25,7 +25,8 @@ use Rattle.line.specs.Ranges.{limit}
 use Rattle.sheet.specs.Format.{trainsOf}
 use Rattle.sheet.specs.Accepted.{AcceptedSheet}
 use Rattle.cells.specs.Place.{InUse}
-use Rattle.planner.specs.ReportChecks.{Reportable, FirstOver}
+use Rattle.cells.specs.Limits.{FirstOver}
+use Rattle.planner.specs.ReportChecks.{Reportable}
 use Rattle.planner.specs.Buffers.{Buffers, Blanked}
 use Rattle.planner.specs.Plan.{planVerdict}
 use Rattle.planner.specs.Report.{reportVerdict}

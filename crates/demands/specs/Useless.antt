@@ -27,7 +27,7 @@ use Rattle.cells.specs.Shown.{shown}
 use Rattle.terms.specs.declared.Answer.{Answer}
 use Rattle.terms.specs.declared.Answer.the-variants.{Refused as AnswerRefused}
 use Rattle.planner.specs.Buffers.{Buffers, RightLengths}
-use Rattle.planner.specs.ReportChecks.{FirstOver}
+use Rattle.cells.specs.Limits.{FirstOver}
 use Rattle.planner.specs.Plan.{Plan}
 use Rattle.planner.specs.Report.{Report}
 use Rattle.demands.specs.Calling.{operations}

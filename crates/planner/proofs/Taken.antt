@@ -1,11 +1,12 @@
 -- From a sheet whose checks passed to what is settled on its times and sums: they make the book of the sheet's line, so
 -- that what is settled on them is settled for that line.
 -- Assumes nothing.
-use mathlib.Core.Path.{_≡_, sym, subst, _∙_}
+use mathlib.Core.Path.{_≡_, refl, ap, sym, subst, _∙_}
 use mathlib.Core.List.{List}
 use Prim.Native.Nat.{ℕ}
 use Rattle.terms.specs.declared.Verdict.{Verdict}
 use Rattle.terms.specs.declared.Verdict.the-variants.{Fine}
+use Rattle.terms.specs.Verdict.{_andThen_}
 use Rattle.line.specs.Cells.{bookOf}
 use Rattle.sheet.specs.Format.{trainsOf, periodOf}
 use Rattle.sheet.specs.Numbers.{Numbers}
@@ -16,16 +17,16 @@ use Rattle.reader.proofs.ReadingOf.{accepted-fine}
 use Rattle.cells.specs.Book.{bookIn, BookGiven}
 use Rattle.prepare.specs.LineOf.{lineOf}
 use Rattle.prepare.specs.Prepared.{TimingOf, SumsOf, Prepared}
+use Rattle.prepare.proofs.Prepares.{prepared-same}
 use Rattle.prepare.proofs.Joining.{book-given, books-alike}
 use Rattle.planner.specs.Buffers.{Buffers}
 use Rattle.planner.specs.Settled.{Settled}
 use Rattle.planner.proofs.Settles.{settled-alike}
 
--- what was prepared after some checks was prepared after equal ones
-pub prepared-same : {v w : Verdict} {s timing sums : List ℕ} {r q : Reading} → v ≡ w → r ≡ q
-    → Prepared v s timing sums r → Prepared w s timing sums q
-prepared-same {w = w} {s = s} {timing = timing} {sums = sums} {r = r} e a h =
-    subst (Prepared w s timing sums) a (subst (λ (x : Verdict). Prepared x s timing sums r) e h)
+-- checks that begin with an equal verdict
+pub after-same : (w : Verdict) {v v′ : Verdict} {s timing sums : List ℕ} {r : Reading} → v ≡ v′
+    → Prepared (v andThen w) s timing sums r → Prepared (v′ andThen w) s timing sums r
+after-same w e h = prepared-same (ap (λ (x : Verdict). x andThen w) e) refl h
 
 module _ {checks : Verdict} {s timing sums : List ℕ} {r : Reading} {m T : ℕ} (told : Prepared checks s timing sums r)
     (answer : r ≡ Accepted m T) where

@@ -7,7 +7,7 @@ use Prim.Native.Nat.{ℕ, _+_, _-_, _*_, _≤_}
 use mathlib.Core.List.{List}
 use Rattle.bits.specs.Field.{Within}
 use Rattle.sheet.specs.Format.{delayColumn}
-use Rattle.cells.specs.Book.{LaterInRange}
+use Rattle.cells.specs.Limits.{LaterInRange}
 use Rattle.planner.specs.Buffers.{Buffers, RightLengths}
 
 -- the rows of trains 1 to t can be worked: every cell in use of the later rows is at most the limit

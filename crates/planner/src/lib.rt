@@ -15,13 +15,14 @@ ghost use Rattle.planner.specs.Buffers.{buffers};
 ghost use Rattle.planner.specs.Plan.{Plan};
 ghost use Rattle.planner.specs.Report.{Report};
 ghost use Rattle.planner.specs.Workable.{DelayRoom};
-use crate::checking::check_plan;
+use crate::checking::check_buffers;
 use crate::checking::check_report;
 use crate::settling::settle;
 use bits::put;
 use cells::timing::set_source;
 use lists::fill_u8;
 use lists::fill_u32;
+use prepare::prepare;
 use reader::Reading;
 use sheet::format::Column;
 use terms::Answer;
@@ -57,16 +58,10 @@ pub fn plan(sheet: &[u8], cells: &mut [u64], decisions: &mut [u8], delays: &mut 
         (buffers (now (cells .exit)) (now (decisions .exit)) (now (delays .exit)))
         r ⌝ }
 {
+    let lengths = check_buffers(cells.len(), decisions.len(), delays.len());
     let mut timing = [0u32; 192];
     let mut sums = [0u32; 4096];
-    let checked = check_plan(
-        sheet,
-        cells.len(),
-        decisions.len(),
-        delays.len(),
-        &mut timing,
-        &mut sums,
-    );
+    let checked = prepare(lengths, sheet, &mut timing, &mut sums);
     match checked {
         Reading::Refused(refusal) => refuse(refusal, decisions, delays),
         Reading::Accepted(m, _) => {
@@ -114,18 +109,10 @@ pub fn report(
         (buffers (now (cells .exit)) (now (decisions .exit)) (now (delays .exit)))
         r ⌝ }
 {
+    let lengths = check_buffers(cells.len(), decisions.len(), delays.len());
     let mut timing = [0u32; 192];
     let mut sums = [0u32; 4096];
-    let checked = check_report(
-        sheet,
-        train,
-        delay,
-        cells,
-        decisions.len(),
-        delays.len(),
-        &mut timing,
-        &mut sums,
-    );
+    let checked = check_report(lengths, sheet, train, delay, cells, &mut timing, &mut sums);
     match checked {
         Reading::Refused(refusal) => refuse(refusal, decisions, delays),
         Reading::Accepted(m, _) => {

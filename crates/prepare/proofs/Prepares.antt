@@ -1,7 +1,7 @@
 -- From a sheet taken apart to its times and sums: what an accepted sheet left in the four lists is enough to fill them,
 -- and they then hold the sheet's own numbers.
 -- Assumes nothing.
-use mathlib.Core.Path.{_≡_, sym, _∙_}
+use mathlib.Core.Path.{_≡_, sym, subst, _∙_}
 use mathlib.Core.List.{List}
 use Prim.Native.Nat.{ℕ, _≤_}
 use native.Mathlib.Nat.{le-trans, le-of-eq}
@@ -98,3 +98,9 @@ prepared-refused checks s timing sums r e =
       times = λ fine. refused-not-fine (e ∙ fine);
       leavers = λ fine. refused-not-fine (e ∙ fine);
     }
+
+-- what was prepared after some checks was prepared after equal ones
+pub prepared-same : {v w : Verdict} {s timing sums : List ℕ} {r q : Reading} → v ≡ w → r ≡ q
+    → Prepared v s timing sums r → Prepared w s timing sums q
+prepared-same {w = w} {s = s} {timing = timing} {sums = sums} {r = r} e a h =
+    subst (Prepared w s timing sums) a (subst (λ (x : Verdict). Prepared x s timing sums r) e h)

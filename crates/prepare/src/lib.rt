@@ -5,15 +5,17 @@ mod times;
 
 ghost use mathlib.Core.Path.{_≡_};
 ghost use lib.ListN.{length};
+ghost use Rattle.terms.specs.Verdict.{_andThen_};
 ghost use Rattle.sheet.specs.Checks.{sheetVerdict};
 ghost use Rattle.prepare.specs.Prepared.{Prepared};
 use crate::sums::sum_columns;
 use crate::times::fill_timing;
 use reader::Reading;
 use reader::decoding::decode;
+use terms::Verdict;
 
 // Takes the sheet apart and, if it is accepted, fills the list of times and that of sums.
-pub fn prepare(sheet: &[u8], timing: &mut [u32], sums: &mut [u32]) -> Reading
+fn prepare_sheet(sheet: &[u8], timing: &mut [u32], sums: &mut [u32]) -> Reading
     requires { ⌜ (length (now timing) ≡ 192) × (length (now sums) ≡ 4096) ⌝ }
     ensures { λ r. ⌜ Prepared (sheetVerdict (now (sheet .entry))) (now (sheet .entry))
         (now (timing .exit)) (now (sums .exit)) r ⌝ }
@@ -34,4 +36,16 @@ pub fn prepare(sheet: &[u8], timing: &mut [u32], sums: &mut [u32]) -> Reading
         sum_columns(sums, &passengers, m);
     }
     answer
+}
+
+// The same, unless an earlier check refused.
+pub fn prepare(earlier: Verdict, sheet: &[u8], timing: &mut [u32], sums: &mut [u32]) -> Reading
+    requires { ⌜ (length (now timing) ≡ 192) × (length (now sums) ≡ 4096) ⌝ }
+    ensures { λ r. ⌜ Prepared (earlier andThen sheetVerdict (now (sheet .entry)))
+        (now (sheet .entry)) (now (timing .exit)) (now (sums .exit)) r ⌝ }
+{
+    if let Verdict::Refused(refusal) = earlier {
+        return Reading::Refused(refusal);
+    }
+    prepare_sheet(sheet, timing, sums)
 }

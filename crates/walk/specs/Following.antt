@@ -13,7 +13,8 @@ use Rattle.line.specs.Cells.{Table, Book, arrivalOn, prefer, choice, under}
 use Rattle.line.specs.Ranges.{limit}
 use Rattle.cells.specs.Place.{cellCount}
 use Rattle.cells.specs.Sums.{Boarders}
-use Rattle.cells.specs.Book.{bookIn, BookGiven, CellsInRange}
+use Rattle.cells.specs.Book.{bookIn, BookGiven}
+use Rattle.cells.specs.Limits.{CellsInRange}
 use Rattle.cells.specs.Costs.{excessIn, keepIn, goIn, CostsAlong}
 use Rattle.cells.specs.Shown.{byteOf}
 

@@ -1,17 +1,18 @@
 -- `report` meets its contract: the checks, then the new delay into sheet and times, and the work from its train down.
 -- Assumes nothing.
 use borrow.Author.Needs.{needs}
-use mathlib.Core.Path.{refl, sym, _∙_}
+use mathlib.Core.Path.{_≡_, refl, sym, _∙_}
 use native.Mathlib.Omega.{arith}
 use Rattle.terms.proofs.Checks.{refused-not-fine}
 use Rattle.sheet.specs.Format.{trainsOf}
 use Rattle.sheet.specs.Accepted.{AcceptedSheet}
 use Rattle.reader.proofs.ReadingOf.{refused-verdict}
-use Rattle.planner.specs.Buffers.{Buffers, buffers, RightLengths}
+use Rattle.planner.specs.Buffers.{Buffers, buffers, RightLengths, buffersVerdict}
 use Rattle.planner.specs.ReportChecks.{Reportable}
 use Rattle.planner.specs.Report.{reportVerdict}
-use Rattle.planner.proofs.Refusals.{right-or-unwritten, afterLengthsVerdict, accepted-of-report}
-use Rattle.planner.proofs.Taken.{taken-fine, taken-trains}
+use Rattle.planner.proofs.Refusals.{cells-of-fine, right-or-unwritten, afterLengthsVerdict}
+use Rattle.planner.proofs.Refusals.{accepted-of-report}
+use Rattle.planner.proofs.Taken.{after-same, taken-fine, taken-trains}
 use Rattle.planner.proofs.Replacing.{delay-room, replaced-given, replaced-settled}
 use Rattle.planner.proofs.Outcome.{outcome-accepted, outcome-refused, refused-for}
 use Rattle.planner.proofs.report.Statement.{statement}
@@ -25,13 +26,26 @@ abbrev checks-of : tie.After-checked2 → tie.After-check-report
 checks-of c = c .before .before .before .before
 
 abbrev start-of : tie.After-check-report → tie.Start
-start-of c = c .before .before .before .before .before .before .before .before .before
+start-of c = c .before .before .before .before .before .before .before .before .before .before
 
 -- the buffers as they were lent
 abbrev lent-to : tie.After-check-report → Buffers
 lent-to c =
     let start = start-of c .args in
     buffers (start .cells .now) (start .decisions .now) (start .delays .now)
+
+-- what the lengths say is said of these buffers
+lengths : (c : tie.After-check-report) →
+    c .before .before .before .before .before .check-buffers .result ≡ buffersVerdict (lent-to c)
+lengths c = c .before .before .before .before .before .check-buffers .ensures
+
+-- lengths that pass are right
+check-report-requires : tie.Need-check-report-requires
+check-report-requires c κs = (
+  λ fine. cells-of-fine _ _ _ (sym (c .before .before .before .before .check-buffers .ensures) ∙ fine),
+  search needs,
+  search needs,
+)
 
 -- the checks passed: the buffers have the right lengths, the sheet is accepted and so is the report
 passed : (c : tie.After-checked2) →
@@ -40,8 +54,9 @@ passed : (c : tie.After-checked2) →
     × Reportable (trainsOf (start .sheet .now)) (start .train .0) (start .delay) (start .cells .now)
 unfolding reportVerdict
 passed c =
-    accepted-of-report _ _ _ (lent-to (checks-of c))
-    (taken-fine (checks-of c .check-report .ensures) (c .checked2 .given .1))
+    let checks = checks-of c in
+    accepted-of-report _ _ _ (lent-to checks)
+    (taken-fine (after-same _ (lengths checks) (checks .check-report .ensures)) (c .checked2 .given .1))
 
 -- the train is one of the sheet's, so that its field lies in the sheet and its delay in the list
 replace-delay-requires : tie.Need-replace-delay-requires
@@ -57,7 +72,7 @@ settle-requires : tie.Need-settle-requires
 settle-requires c κs =
     let replaced = c .before .before .before .before .before .before .before .before in
     let told = told-of replaced in
-    let checked = checks-of told .check-report .ensures in
+    let checked = after-same _ (lengths (checks-of told)) (checks-of told .check-report .ensures) in
     let answer = told .checked2 .given .1 in
     let fine = taken-fine checked answer in
     let trains = taken-trains checked answer in
@@ -78,7 +93,8 @@ returns c =
     let checks = told .before .before .before .before in
     let lent = lent-to checks in
     let left = called .refuse .ensures in
-    let verdict = refused-verdict _ _ _ (sym (told .checked .given .1) ∙ checks .check-report .ensures .answer) in
+    let checked = after-same _ (lengths checks) (checks .check-report .ensures) in
+    let verdict = refused-verdict _ _ _ (sym (told .checked .given .1) ∙ checked .answer) in
     rw (left .0)
     (record {
       outcome = outcome-refused _ _ lent _ _ (sym verdict)
@@ -94,7 +110,7 @@ returns-2 c =
     let work = c .before .before .before .before .before .before in
     let replaced = work .before .before .before .before .before .before .before .before .before in
     let told = told-of replaced in
-    let checked = checks-of told .check-report .ensures in
+    let checked = after-same _ (lengths (checks-of told)) (checks-of told .check-report .ensures) in
     let answer = told .checked2 .given .1 in
     let fine = taken-fine checked answer in
     let ok = passed told in
@@ -115,7 +131,7 @@ returns-2 c =
 pub report-spec : {M : Type 1} → statement M
 report-spec =
     tie.close
-    (tie.spec (λ c. search needs) (λ c. search needs) (λ c κs. search needs) (λ c. search needs) (λ c κs. search needs)
-    (λ c. search needs) (λ c. search needs) replace-delay-requires (λ c. search needs) (λ c. search needs)
-    settle-requires (λ c. search needs) (λ c. search needs) (λ c. search needs) (λ c. search needs) returns
-    (λ c. search needs) (λ c. search needs) (λ c. search needs) (λ c. search needs) returns-2)
+    (tie.spec (λ c κs. search needs) (λ c. search needs) (λ c. search needs) check-report-requires (λ c. search needs)
+    (λ c κs. search needs) (λ c. search needs) (λ c. search needs) replace-delay-requires (λ c. search needs)
+    (λ c. search needs) settle-requires (λ c. search needs) (λ c. search needs) (λ c. search needs) (λ c. search needs)
+    returns (λ c. search needs) (λ c. search needs) (λ c. search needs) (λ c. search needs) returns-2)

@@ -1,4 +1,4 @@
--- `checking::check_rows_after` meets its contract. Invariant: the rows from k on are still to be checked.
+-- `limits::check_rows_after` meets its contract. Invariant: the rows from k on are still to be checked.
 -- Measure: how many.
 -- Assumes nothing.
 use borrow.Author.Needs.{needs}
@@ -7,9 +7,9 @@ use Prim.Native.Nat.{ℕ, _+_, _-_, _≤_}
 use native.Mathlib.Omega.{arith}
 use Rattle.terms.specs.Verdict.{firstOf}
 use Rattle.terms.proofs.Checks.{Searching, search-first, search-next, search-stop, search-end}
-use Rattle.planner.specs.ReportChecks.{rowVerdict, laterVerdict}
-use Rattle.planner.proofs.checking.check_rows_after.Statement.{statement}
-use Rattle.planner.proofs.checking.check_rows_after.Tie as tie
+use Rattle.cells.specs.Limits.{rowVerdict, laterVerdict}
+use Rattle.cells.proofs.limits.check_rows_after.Statement.{statement}
+use Rattle.cells.proofs.limits.check_rows_after.Tie as tie
 
 abbrev Inv-loop : tie.InvT-loop
 Inv-loop cells m k₀ k = (1 ≤ k) × Searching (rowVerdict m cells) k₀ (m + 1 - k₀) k

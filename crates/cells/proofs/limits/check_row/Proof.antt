@@ -1,4 +1,4 @@
--- `checking::check_row` meets its contract. Invariant: the cells from column l on are still to be checked.
+-- `limits::check_row` meets its contract. Invariant: the cells from column l on are still to be checked.
 -- Measure: how many.
 -- Assumes nothing.
 use borrow.Author.Needs.{needs}
@@ -7,9 +7,9 @@ use Prim.Native.Nat.{_+_, _-_}
 use native.Mathlib.Omega.{arith}
 use Rattle.terms.proofs.Checks.{Searching, search-first, search-next, search-stop, search-end, hit, miss}
 use Rattle.terms.proofs.Checks.{no-more}
-use Rattle.planner.specs.ReportChecks.{cellVerdict, rowVerdict}
-use Rattle.planner.proofs.checking.check_row.Statement.{statement}
-use Rattle.planner.proofs.checking.check_row.Tie as tie
+use Rattle.cells.specs.Limits.{cellVerdict, rowVerdict}
+use Rattle.cells.proofs.limits.check_row.Statement.{statement}
+use Rattle.cells.proofs.limits.check_row.Tie as tie
 
 abbrev Inv-loop : tie.InvT-loop
 Inv-loop cells m first l₀ l = Searching (cellVerdict m cells (first .0)) (first .0) (m + 1 - first .0) l
