@@ -26,18 +26,6 @@ pub fn fill_u32(list: &mut [u32], value: u32)
 }
 
 // `list` becomes `from`, which is as long.
-pub fn copy_u8(list: &mut [u8], from: &[u8])
-    requires { ⌜ length (now from) ≡ length (now list) ⌝ }
-    ensures { λ _. ⌜ now (list .exit) ≡ now (from .entry) ⌝ }
-{
-    let mut k = 0;
-    while k < list.len() {
-        list[k] = from[k];
-        k += 1;
-    }
-}
-
-// `list` becomes `from`, which is as long.
 pub fn copy_u32(list: &mut [u32], from: &[u32])
     requires { ⌜ length (now from) ≡ length (now list) ⌝ }
     ensures { λ _. ⌜ now (list .exit) ≡ now (from .entry) ⌝ }

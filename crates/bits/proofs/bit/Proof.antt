@@ -8,9 +8,6 @@ use Rattle.bits.specs.Field.{bitAt}
 use Rattle.bits.proofs.bit.Statement.{statement}
 use Rattle.bits.proofs.bit.Tie as tie
 
-cast-byte : tie.Need-cast-byte
-cast-byte c = omega (arith, c .shared-slice-known .given (c .before .args .i / 8))
-
 returns : tie.Need-returns
 unfolding bitAt
 returns c = refl
@@ -18,4 +15,5 @@ returns c = refl
 pub bit-spec : {M : Type 1} → statement M
 bit-spec =
     tie.close
-    (tie.spec (λ c. search needs) cast-byte (λ c. search needs) (λ c. search needs) (λ c. search needs) returns)
+    (tie.spec (λ c. search needs) (λ c. omega (arith, c .shared-slice-known .given (c .before .args .i / 8)))
+    (λ c. search needs) (λ c. search needs) (λ c. search needs) returns)

@@ -16,14 +16,8 @@ Inv-loop bytes at width number₀ k₀ number k = (k ≤ width) × (number ≡ f
 abbrev μ-loop : tie.MeasureT-loop
 μ-loop bytes at width number₀ k₀ number k = width - k
 
-loop-holds : tie.Need-loop-holds Inv-loop μ-loop
-loop-holds c = (omega arith, sym (field-none _ _))
-
 small : (c : tie.In-loop Inv-loop μ-loop) → c .before .loop .number < 65536
 small c = rw (c .before .loop .inv .1) (field-small _ _ _ (omega arith))
-
-mul-number : tie.Need-mul-number Inv-loop μ-loop
-mul-number c = omega (arith, small c)
 
 -- a bit more stays below 2 ^ 32
 add-number : tie.Need-add-number Inv-loop μ-loop
@@ -32,14 +26,9 @@ add-number c =
     let k = c .before .before .loop .k in
     omega (arith, small (c .before), c .bit .ensures, bit-lt (start .bytes .now) (start .at + k))
 
-loop-again : tie.Need-loop-again Inv-loop μ-loop
-loop-again c = (omega arith, rw field-more (cc))
-
-returns : tie.Need-returns Inv-loop μ-loop
-returns c = c .before .loop .inv .1 ∙ ap (fieldOf _ _) (omega arith)
-
 pub field-spec : {M : Type 1} → statement M
 field-spec =
     tie.close
-    (tie.spec Inv-loop μ-loop loop-holds mul-number (λ c. search needs) (λ c κs. search needs) add-number
-    (λ c. search needs) (λ c. search needs) loop-again returns)
+    (tie.spec Inv-loop μ-loop (λ c. (omega arith, sym (field-none _ _))) (λ c. omega (arith, small c))
+    (λ c. search needs) (λ c κs. search needs) add-number (λ c. search needs) (λ c. search needs)
+    (λ c. (omega arith, rw field-more (cc))) (λ c. c .before .loop .inv .1 ∙ ap (fieldOf _ _) (omega arith)))

@@ -55,23 +55,15 @@ Inv-loop bytes₀ at width value left₀ rest₀ bytes left rest = Putting bytes
 abbrev μ-loop : tie.MeasureT-loop
 μ-loop bytes₀ at width value left₀ rest₀ bytes left rest = left
 
-loop-holds : tie.Need-loop-holds Inv-loop μ-loop
-loop-holds c = putting-none _ _ _ _
-
 -- one bit more is put in front
 loop-again : tie.Need-loop-again Inv-loop μ-loop
 loop-again c =
     putting-next (c .before .before .before .before .before .loop .inv) (omega arith)
     (c .before .before .put-bit .ensures)
 
-same-length : tie.Need-same-length Inv-loop μ-loop
-same-length c = c .before .loop .inv .done .long
-
-returns : tie.Need-returns Inv-loop μ-loop
-returns c = putting-all (c .before .loop .inv) (omega arith) (c .before .before .before .pre .1)
-
 pub put-spec : {M : Type 1} → statement M
 put-spec =
     tie.close
-    (tie.spec Inv-loop μ-loop loop-holds (λ c. search needs) (λ c. search needs) (λ c κs. search needs)
-    (λ c. search needs) loop-again same-length returns)
+    (tie.spec Inv-loop μ-loop (λ c. putting-none _ _ _ _) (λ c. search needs) (λ c. search needs) (λ c κs. search needs)
+    (λ c. search needs) loop-again (λ c. c .before .loop .inv .done .long)
+    (λ c. putting-all (c .before .loop .inv) (omega arith) (c .before .before .before .pre .1)))

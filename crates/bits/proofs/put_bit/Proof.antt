@@ -6,11 +6,8 @@ use Rattle.bits.proofs.Puts.{put-one}
 use Rattle.bits.proofs.put_bit.Statement.{statement}
 use Rattle.bits.proofs.put_bit.Tie as tie
 
-returns : tie.Need-returns
-returns c = put-one _ _ _ _ (omega arith) (c .with-bit .ensures)
-
 pub put-bit-spec : {M : Type 1} → statement M
 put-bit-spec =
     tie.close
     (tie.spec (λ c. search needs) (λ c. search needs) (λ c κs. search needs) (λ c. search needs) (λ c. search needs)
-    returns)
+    (λ c. put-one _ _ _ _ (omega arith) (c .with-bit .ensures)))

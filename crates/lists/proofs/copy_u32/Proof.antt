@@ -16,17 +16,10 @@ Inv-loop list₀ from k₀ list k = (k ≤ length list₀) × Filled 0 (λ (j : 
 abbrev μ-loop : tie.MeasureT-loop
 μ-loop list₀ from k₀ list k = length list₀ - k
 
-loop-holds : tie.Need-loop-holds Inv-loop μ-loop
-loop-holds c = (omega arith, filled-none _ _ _)
-
-loop-again : tie.Need-loop-again Inv-loop μ-loop
-loop-again c = (omega arith, filled-next _ _ (c .before .before .loop .inv .1) (omega arith) refl)
-
-returns : tie.Need-returns Inv-loop μ-loop
-returns c = filled-all _ _ _ (c .before .loop .inv .1) (omega arith) (omega arith) (λ k l. refl)
-
 pub copy-u32-spec : {M : Type 1} → statement M
 copy-u32-spec =
     tie.close
-    (tie.spec Inv-loop μ-loop loop-holds (λ c. search needs) (λ c. search needs) (λ c. search needs) (λ c. search needs)
-    (λ c. search needs) (λ c. search needs) loop-again (λ c. search needs) returns)
+    (tie.spec Inv-loop μ-loop (λ c. (omega arith, filled-none _ _ _)) (λ c. search needs) (λ c. search needs)
+    (λ c. search needs) (λ c. search needs) (λ c. search needs) (λ c. search needs)
+    (λ c. (omega arith, filled-next _ _ (c .before .before .loop .inv .1) (omega arith) refl)) (λ c. search needs)
+    (λ c. filled-all _ _ _ (c .before .loop .inv .1) (omega arith) (omega arith) (λ k l. refl)))

@@ -16,17 +16,9 @@ Inv-loop list₀ value k₀ list k = (k ≤ length list₀) × Filled 0 (λ (j :
 abbrev μ-loop : tie.MeasureT-loop
 μ-loop list₀ value k₀ list k = length list₀ - k
 
-loop-holds : tie.Need-loop-holds Inv-loop μ-loop
-loop-holds c = (omega arith, filled-none _ _ _)
-
-loop-again : tie.Need-loop-again Inv-loop μ-loop
-loop-again c = (omega arith, filled-next _ _ (c .before .loop .inv .1) (c .loop-test .taken) refl)
-
-returns : tie.Need-returns Inv-loop μ-loop
-returns c = filled-value _ _ (c .before .loop .inv .1) (omega arith)
-
 pub fill-u8-spec : {M : Type 1} → statement M
 fill-u8-spec =
     tie.close
-    (tie.spec Inv-loop μ-loop loop-holds (λ c. search needs) (λ c. search needs) (λ c. search needs) loop-again
-    (λ c. search needs) returns)
+    (tie.spec Inv-loop μ-loop (λ c. (omega arith, filled-none _ _ _)) (λ c. search needs) (λ c. search needs)
+    (λ c. search needs) (λ c. (omega arith, filled-next _ _ (c .before .loop .inv .1) (c .loop-test .taken) refl))
+    (λ c. search needs) (λ c. filled-value _ _ (c .before .loop .inv .1) (omega arith)))

@@ -40,15 +40,6 @@ spot c =
       mid-len a (a + n) (start .args .cells .now) (omega (arith, e, fits, start .pre .long)) ∙ size,
     )
 
-add-b-2 : tie.Need-add-b-2
-add-b-2 c = omega (arith, spot (c .before) .1)
-
-mul-fill-row : tie.Need-mul-fill-row
-mul-fill-row c = omega (arith, spot (c .before) .1)
-
-part-fill-row-end : tie.Need-part-fill-row-end
-part-fill-row-end c = omega (arith, spot (c .before) .1, start-of (c .before) .pre .long)
-
 -- what the row is filled from can be added
 fill-row-requires : tie.Need-fill-row-requires
 fill-row-requires c κs =
@@ -56,9 +47,6 @@ fill-row-requires c κs =
     let start = start-of placed .pre in
     rw (spot placed .2) (row-room _ _ _ _ _ _ (start .given) (start .first) (start .last)
     (costed-of placed .costs-along .ensures) (start .long-diagonal) (start .most))
-
-mul-result : tie.Need-mul-result
-mul-result c = omega (arith, spot (placed-of (c .before .before)) .1)
 
 -- the first place is there, now that the part is back
 slice-read-result : tie.Need-slice-read-result
@@ -86,5 +74,8 @@ pub work-row-spec : {M : Type 1} → statement M
 work-row-spec =
     tie.close
     (tie.spec (λ c κs. search needs) (λ c κs. search needs) (λ c κs. search needs) (λ c. search needs)
-    (λ c. search needs) (λ c. search needs) add-b-2 mul-fill-row (λ c. search needs) (λ c. search needs)
-    part-fill-row-end fill-row-requires mul-result slice-read-result (λ c. search needs) (λ c. search needs) returns)
+    (λ c. search needs) (λ c. search needs) (λ c. omega (arith, spot (c .before) .1))
+    (λ c. omega (arith, spot (c .before) .1)) (λ c. search needs) (λ c. search needs)
+    (λ c. omega (arith, spot (c .before) .1, start-of (c .before) .pre .long)) fill-row-requires
+    (λ c. omega (arith, spot (placed-of (c .before .before)) .1)) slice-read-result (λ c. search needs)
+    (λ c. search needs) returns)

@@ -12,9 +12,6 @@ use Rattle.walk.proofs.decide_at.Tie as tie
 abbrev start-of : tie.After-choose → tie.Start
 start-of c = c .before .before .before .before .before .before .before
 
-choose-requires : tie.Need-choose-requires
-choose-requires c κs = step-chooses _ _ _ _ _ _ _ _ (c .before .before .before .before .before .before .pre)
-
 abbrev chosen-of : tie.After-excess-on → tie.After-choose
 chosen-of c = c .before .before .before .before
 
@@ -52,5 +49,6 @@ returns-2 c =
 pub decide-at-spec : {M : Type 1} → statement M
 decide-at-spec =
     tie.close
-    (tie.spec choose-requires (λ c κs. search needs) (λ c κs. search needs) arrives-requires (λ c. search needs) returns
-    (λ c κs. search needs) (λ c κs. search needs) (λ c. search needs) returns-2)
+    (tie.spec (λ c κs. step-chooses _ _ _ _ _ _ _ _ (c .before .before .before .before .before .before .pre))
+    (λ c κs. search needs) (λ c κs. search needs) arrives-requires (λ c. search needs) returns (λ c κs. search needs)
+    (λ c κs. search needs) (λ c. search needs) returns-2)

@@ -40,9 +40,6 @@ right-ranges : (c : tie.After-enum-told2) →
     let start = entry-of (c .before .before) .args in rangesVerdict (start .m) (start .period) ≡ Fine
 right-ranges c = sym (c .before .before .check-ranges .ensures) ∙ c .enum-told2 .given .1
 
-pairs-of-requires : tie.Need-pairs-of-requires
-pairs-of-requires c κs = ranges-of-fine _ _ (right-ranges c) .trains-most
-
 -- what the lengths are compared with
 lengths-are : (c : tie.After-check-lengths) →
     let start = entry-of (ranges-of c) .args in
@@ -84,5 +81,6 @@ returns-4 c =
 pub check-write-spec : {M : Type 1} → statement M
 check-write-spec =
     tie.close
-    (tie.spec returns (λ c κs. search needs) (λ c. search needs) returns-2 (λ c. search needs) pairs-of-requires
-    (λ c κs. search needs) (λ c. search needs) returns-3 (λ c. search needs) check-numbers-requires returns-4)
+    (tie.spec returns (λ c κs. search needs) (λ c. search needs) returns-2 (λ c. search needs)
+    (λ c κs. ranges-of-fine _ _ (right-ranges c) .trains-most) (λ c κs. search needs) (λ c. search needs) returns-3
+    (λ c. search needs) check-numbers-requires returns-4)

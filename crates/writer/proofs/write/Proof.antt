@@ -34,20 +34,11 @@ fine : (c : tie.After-enum-told) →
     writeVerdict (length (start .args .sheet .now)) (given-at start) ≡ Fine
 fine c = sym (c .before .before .check-write .ensures) ∙ c .enum-told .given .1
 
-bytes-of-requires : tie.Need-bytes-of-requires
-bytes-of-requires c κs = accepts-of-fine _ _ (fine c) .range .trains-most
-
 -- the sheet fits the buffer
 room : (c : tie.After-bytes-of) → c .bytes-of .result ≤ length (entry-of (c .before .before .before) .args .sheet .now)
 room c =
     let accepts = accepts-of-fine _ _ (fine (c .before)) in
     omega (arith, c .bytes-of .ensures, accepts .room-is, bytes-le _ (accepts .range .trains-most))
-
-slice-relend-prefix-put-sheet : tie.Need-slice-relend-prefix-put-sheet
-slice-relend-prefix-put-sheet c = room c
-
-slice-aggregate-put-sheet : tie.Need-slice-aggregate-put-sheet
-slice-aggregate-put-sheet c = sym (length-take-le _ _ (room (c .before)))
 
 -- the first bytes are as many as the sheet has
 put-sheet-requires : tie.Need-put-sheet-requires
@@ -68,5 +59,6 @@ returns-2 c =
 pub write-spec : {M : Type 1} → statement M
 write-spec =
     tie.close
-    (tie.spec (λ c κs. search needs) (λ c. search needs) returns (λ c. search needs) bytes-of-requires
-    slice-relend-prefix-put-sheet slice-aggregate-put-sheet put-sheet-requires (λ c. search needs) returns-2)
+    (tie.spec (λ c κs. search needs) (λ c. search needs) returns (λ c. search needs)
+    (λ c κs. accepts-of-fine _ _ (fine c) .range .trains-most) (λ c. room c)
+    (λ c. sym (length-take-le _ _ (room (c .before)))) put-sheet-requires (λ c. search needs) returns-2)

@@ -68,9 +68,6 @@ boards c =
     let parts = turn-boards _ _ _ _ (start .pre .0) _ _ _ _ (at-loop .inv) (turn .loop-test .taken) in
     (here, omega arith, parts .1)
 
-sub-cost : tie.Need-sub-cost Inv-loop μ-loop
-sub-cost c = boards (c .before) .1
-
 -- the period at station i
 minutes : (c : tie.After-period-at Inv-loop μ-loop) →
     let turn = station-of (c .before .before .before) .before in
@@ -115,5 +112,6 @@ costs-along-spec =
     tie.close
     (tie.spec Inv-loop μ-loop (λ c κs. search needs) (λ c κs. search needs) (λ c. search needs) (λ c. search needs)
     loop-holds (λ c κs. search needs) (λ c κs. search needs) (λ c κs. search needs) (λ c κs. search needs) cost-requires
-    (λ c κs. search needs) (λ c. search needs) (λ c. search needs) sub-cost (λ c κs. search needs) cost-requires-2
-    (λ c κs. search needs) sub-boarded (λ c. search needs) (λ c. search needs) loop-again (λ c. search needs) returns)
+    (λ c κs. search needs) (λ c. search needs) (λ c. search needs) (λ c. boards (c .before) .1) (λ c κs. search needs)
+    cost-requires-2 (λ c κs. search needs) sub-boarded (λ c. search needs) (λ c. search needs) loop-again
+    (λ c. search needs) returns)

@@ -6,17 +6,9 @@ use lib.ListN.{length-set}
 use Rattle.cells.proofs.costs.put_costs.Statement.{statement}
 use Rattle.cells.proofs.costs.put_costs.Tie as tie
 
-slice-write-costs-2 : tie.Need-slice-write-costs-2
-slice-write-costs-2 c = simp length-set (omega arith)
-
-slice-write-costs-3 : tie.Need-slice-write-costs-3
-slice-write-costs-3 c = simp length-set (omega arith)
-
-returns : tie.Need-returns
-returns c = rw (c .index .ensures)
-
 pub put-costs-spec : {M : Type 1} → statement M
 put-costs-spec =
     tie.close
     (tie.spec (λ c κs. search needs) (λ c. search needs) (λ c. search needs) (λ c. search needs) (λ c. search needs)
-    slice-write-costs-2 (λ c. search needs) (λ c. search needs) slice-write-costs-3 (λ c. search needs) returns)
+    (λ c. simp length-set (omega arith)) (λ c. search needs) (λ c. search needs) (λ c. simp length-set (omega arith))
+    (λ c. search needs) (λ c. rw (c .index .ensures)))

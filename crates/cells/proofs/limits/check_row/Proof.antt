@@ -17,9 +17,6 @@ Inv-loop cells m first l₀ l = Searching (cellVerdict m cells (first .0)) (firs
 abbrev μ-loop : tie.MeasureT-loop
 μ-loop cells m first l₀ l = m + 1 - l
 
-loop-holds : tie.Need-loop-holds Inv-loop μ-loop
-loop-holds c = rw (c .leaves .ensures) (search-first _ _ _)
-
 -- the column lies in the row
 cell-at-requires : tie.Need-cell-at-requires Inv-loop μ-loop
 cell-at-requires c κs =
@@ -50,5 +47,5 @@ returns-2 c = search-end _ _ _ (c .before .loop .inv) (omega arith)
 pub check-row-spec : {M : Type 1} → statement M
 check-row-spec =
     tie.close
-    (tie.spec Inv-loop μ-loop (λ c κs. search needs) loop-holds cell-at-requires returns (λ c. search needs)
-    (λ c. search needs) loop-again returns-2)
+    (tie.spec Inv-loop μ-loop (λ c κs. search needs) (λ c. rw (c .leaves .ensures) (search-first _ _ _))
+    cell-at-requires returns (λ c. search needs) (λ c. search needs) loop-again returns-2)

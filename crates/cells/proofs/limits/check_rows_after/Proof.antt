@@ -17,9 +17,6 @@ Inv-loop cells m k₀ k = (1 ≤ k) × Searching (rowVerdict m cells) k₀ (m + 
 abbrev μ-loop : tie.MeasureT-loop
 μ-loop cells m k₀ k = m + 1 - k
 
-loop-holds : tie.Need-loop-holds Inv-loop μ-loop
-loop-holds c = (omega arith, search-first _ _ _)
-
 -- the row lies after the train's and is one of the line's
 check-row-requires : tie.Need-check-row-requires Inv-loop μ-loop
 check-row-requires c κs =
@@ -56,5 +53,5 @@ returns-2 c = search-end _ _ _ (c .before .loop .inv .1) (omega arith) ∙ ap (f
 pub check-rows-after-spec : {M : Type 1} → statement M
 check-rows-after-spec =
     tie.close
-    (tie.spec Inv-loop μ-loop (λ c. search needs) loop-holds check-row-requires (λ c. search needs) returns
-    (λ c. search needs) (λ c. search needs) (λ c. search needs) loop-again returns-2)
+    (tie.spec Inv-loop μ-loop (λ c. search needs) (λ c. (omega arith, search-first _ _ _)) check-row-requires
+    (λ c. search needs) returns (λ c. search needs) (λ c. search needs) (λ c. search needs) loop-again returns-2)

@@ -16,19 +16,14 @@ within c =
     rw (c .place .ensures)
     (place-lt _ _ _ (start .pre .0) (start .pre .1) (c .before .if1 .taken) (start .pre .2))
 
-mul-result : tie.Need-mul-result
-mul-result c = omega (arith, within c)
-
-shared-slice-read-result : tie.Need-shared-slice-read-result
-shared-slice-read-result c = omega (arith, within (c .before), c .before .before .before .before .before .pre .3)
-
 returns : tie.Need-returns
 returns c =
     ap (λ (p : ℕ). getD (c .before .before .before .before .before .args .cells .now) p 0) (c .before .place .ensures)
     ∙ sym (table-in _ _ _ _ (c .before .before .if1 .taken))
 
-returns-2 : tie.Need-returns-2
-returns-2 c = sym (table-past _ _ _ _ (c .if1 .left))
-
 pub cell-at-spec : {M : Type 1} → statement M
-cell-at-spec = tie.close (tie.spec (λ c κs. search needs) mul-result shared-slice-read-result returns returns-2)
+cell-at-spec =
+    tie.close
+    (tie.spec (λ c κs. search needs) (λ c. omega (arith, within c))
+    (λ c. omega (arith, within (c .before), c .before .before .before .before .before .pre .3)) returns
+    (λ c. sym (table-past _ _ _ _ (c .if1 .left))))

@@ -37,9 +37,6 @@ counted c =
       boarded-le _ _ (start .pre .0) _ (at-loop .t) (start .pre .1) (omega (arith, start .pre .2)) (at-loop .inv .1),
     )
 
-add-sum : tie.Need-add-sum Inv-loop μ-loop
-add-sum c = omega (arith, counted c)
-
 -- one train more
 loop-again : tie.Need-loop-again Inv-loop μ-loop
 loop-again c =
@@ -56,5 +53,5 @@ returns c =
 pub boarded-spec : {M : Type 1} → statement M
 boarded-spec =
     tie.close
-    (tie.spec Inv-loop μ-loop loop-holds (λ c κs. search needs) add-sum (λ c. search needs) (λ c. search needs)
-    loop-again returns)
+    (tie.spec Inv-loop μ-loop loop-holds (λ c κs. search needs) (λ c. omega (arith, counted c)) (λ c. search needs)
+    (λ c. search needs) loop-again returns)

@@ -12,13 +12,8 @@ slack-here : (c : tie.After-wide) →
 unfolding slackIn
 slack-here c = rw (c .wide .ensures, c .before .index .ensures)
 
-returns : tie.Need-returns
-returns c = let e = slack-here (c .before) in omega arith
-
-returns-2 : tie.Need-returns-2
-returns-2 c = let e = slack-here (c .before) in omega arith
-
 pub excess-at-spec : {M : Type 1} → statement M
 excess-at-spec =
     tie.close
-    (tie.spec (λ c κs. search needs) (λ c κs. search needs) (λ c. search needs) returns returns-2)
+    (tie.spec (λ c κs. search needs) (λ c κs. search needs) (λ c. search needs)
+    (λ c. let e = slack-here (c .before) in omega arith) (λ c. let e = slack-here (c .before) in omega arith))

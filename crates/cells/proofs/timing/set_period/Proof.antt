@@ -4,11 +4,8 @@ use borrow.Author.Needs.{needs}
 use Rattle.cells.proofs.timing.set_period.Statement.{statement}
 use Rattle.cells.proofs.timing.set_period.Tie as tie
 
-returns : tie.Need-returns
-returns c = rw (c .index .ensures)
-
 pub set-period-spec : {M : Type 1} → statement M
 set-period-spec =
     tie.close
     (tie.spec (λ c κs. search needs) (λ c. search needs) (λ c. search needs) (λ c. search needs) (λ c. search needs)
-    returns)
+    (λ c. rw (c .index .ensures)))

@@ -4,10 +4,8 @@ use borrow.Author.Needs.{needs}
 use Rattle.cells.proofs.timing.set_slack.Statement.{statement}
 use Rattle.cells.proofs.timing.set_slack.Tie as tie
 
-returns : tie.Need-returns
-returns c = rw (c .index .ensures)
-
 pub set-slack-spec : {M : Type 1} → statement M
 set-slack-spec =
     tie.close
-    (tie.spec (λ c κs. search needs) (λ c. search needs) (λ c. search needs) (λ c. search needs) returns)
+    (tie.spec (λ c κs. search needs) (λ c. search needs) (λ c. search needs) (λ c. search needs)
+    (λ c. rw (c .index .ensures)))

@@ -4,11 +4,8 @@ use borrow.Author.Needs.{needs}
 use Rattle.cells.proofs.timing.set_source.Statement.{statement}
 use Rattle.cells.proofs.timing.set_source.Tie as tie
 
-returns : tie.Need-returns
-returns c = rw (c .index .ensures)
-
 pub set-source-spec : {M : Type 1} → statement M
 set-source-spec =
     tie.close
     (tie.spec (λ c κs. search needs) (λ c. search needs) (λ c. search needs) (λ c. search needs) (λ c. search needs)
-    returns)
+    (λ c. rw (c .index .ensures)))

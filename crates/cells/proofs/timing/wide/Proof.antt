@@ -5,8 +5,8 @@ use native.Mathlib.Omega.{arith}
 use Rattle.cells.proofs.timing.wide.Statement.{statement}
 use Rattle.cells.proofs.timing.wide.Tie as tie
 
-cast-result : tie.Need-cast-result
-cast-result c = omega (arith, c .shared-slice-known .given (c .before .args .index))
-
 pub wide-spec : {M : Type 1} → statement M
-wide-spec = tie.close (tie.spec (λ c. search needs) (λ c. search needs) cast-result (λ c. search needs))
+wide-spec =
+    tie.close
+    (tie.spec (λ c. search needs) (λ c. search needs)
+    (λ c. omega (arith, c .shared-slice-known .given (c .before .args .index))) (λ c. search needs))

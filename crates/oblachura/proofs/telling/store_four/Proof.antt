@@ -6,11 +6,8 @@ use Rattle.oblachura.proofs.Stores.{stored-four}
 use Rattle.oblachura.proofs.telling.store_four.Statement.{statement}
 use Rattle.oblachura.proofs.telling.store_four.Tie as tie
 
-returns : tie.Need-returns
-returns c = (refl, stored-four (c .args .answer .now) _ _ _ _ (c .pre))
-
 pub store-four-spec : {M : Type 1} → statement M
 store-four-spec =
     tie.close
     (tie.spec (λ c. search needs) (λ c. search needs) (λ c. search needs) (λ c. search needs) (λ c. search needs)
-    returns)
+    (λ c. (refl, stored-four (c .args .answer .now) _ _ _ _ (c .pre))))

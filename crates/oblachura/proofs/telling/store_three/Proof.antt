@@ -6,10 +6,8 @@ use Rattle.oblachura.proofs.Stores.{stored-three}
 use Rattle.oblachura.proofs.telling.store_three.Statement.{statement}
 use Rattle.oblachura.proofs.telling.store_three.Tie as tie
 
-returns : tie.Need-returns
-returns c = (refl, stored-three (c .args .answer .now) _ _ _ (c .pre))
-
 pub store-three-spec : {M : Type 1} → statement M
 store-three-spec =
     tie.close
-    (tie.spec (λ c. search needs) (λ c. search needs) (λ c. search needs) (λ c. search needs) returns)
+    (tie.spec (λ c. search needs) (λ c. search needs) (λ c. search needs) (λ c. search needs)
+    (λ c. (refl, stored-three (c .args .answer .now) _ _ _ (c .pre))))

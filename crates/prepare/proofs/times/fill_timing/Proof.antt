@@ -28,9 +28,6 @@ given : (c : tie.In-loop Inv-loop μ-loop) →
 given c =
     c .before .before .before .before .before .before .pre .1 _ (c .before .loop .inv .0) (c .loop-test .taken)
 
-set-times-requires : tie.Need-set-times-requires Inv-loop μ-loop
-set-times-requires c κs = (given (c .before), c .before .before .loop .inv .2)
-
 -- a train is at most 64
 add-i : tie.Need-add-i Inv-loop μ-loop
 add-i c = omega (arith, given (c .before .before .before .before) .most)
@@ -46,5 +43,5 @@ returns c = times-fewer (c .before .loop .inv .2) (omega arith)
 pub fill-timing-spec : {M : Type 1} → statement M
 fill-timing-spec =
     tie.close
-    (tie.spec Inv-loop μ-loop loop-holds set-times-requires add-i (λ c. search needs) loop-again (λ c. search needs)
-    returns)
+    (tie.spec Inv-loop μ-loop loop-holds (λ c κs. (given (c .before), c .before .before .loop .inv .2)) add-i
+    (λ c. search needs) loop-again (λ c. search needs) returns)

@@ -17,9 +17,6 @@ Inv-loop n passengers f₀ f = Searching (passengersVerdict (nth passengers)) 1 
 abbrev μ-loop : tie.MeasureT-loop
 μ-loop n passengers f₀ f = n + 1 - f
 
-loop-holds : tie.Need-loop-holds Inv-loop μ-loop
-loop-holds c = search-first _ _ _
-
 -- a field was refused: it is the first
 returns : tie.Need-returns Inv-loop μ-loop
 unfolding passengersVerdict
@@ -38,5 +35,5 @@ returns-2 c = search-end _ _ _ (c .before .loop .inv) (omega arith)
 pub check-passengers-spec : {M : Type 1} → statement M
 check-passengers-spec =
     tie.close
-    (tie.spec Inv-loop μ-loop loop-holds (λ c. search needs) (λ c. search needs) (λ c. search needs) (λ c. search needs)
-    returns (λ c. search needs) (λ c. search needs) loop-again returns-2)
+    (tie.spec Inv-loop μ-loop (λ c. search-first _ _ _) (λ c. search needs) (λ c. search needs) (λ c. search needs)
+    (λ c. search needs) returns (λ c. search needs) (λ c. search needs) loop-again returns-2)

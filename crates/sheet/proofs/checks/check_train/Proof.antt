@@ -7,9 +7,6 @@ use Rattle.sheet.specs.Checks.{trainVerdict}
 use Rattle.sheet.proofs.checks.check_train.Statement.{statement}
 use Rattle.sheet.proofs.checks.check_train.Tie as tie
 
-cast-departure : tie.Need-cast-departure
-cast-departure c = omega (arith, c .shared-slice-known4 .given (c .before .index .result))
-
 returns : tie.Need-returns
 unfolding trainVerdict
 returns c =
@@ -19,5 +16,6 @@ returns c =
 pub check-train-spec : {M : Type 1} → statement M
 check-train-spec =
     tie.close
-    (tie.spec (λ c κs. search needs) (λ c. search needs) (λ c. search needs) cast-departure (λ c κs. search needs)
+    (tie.spec (λ c κs. search needs) (λ c. search needs) (λ c. search needs)
+    (λ c. omega (arith, c .shared-slice-known4 .given (c .before .index .result))) (λ c κs. search needs)
     (λ c. search needs) (λ c. search needs) (λ c. search needs) (λ c. search needs) (λ c κs. search needs) returns)

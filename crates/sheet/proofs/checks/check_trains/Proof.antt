@@ -16,9 +16,6 @@ Inv-loop m departures driving delays i₀ i = Searching (trainVerdict (timesIn d
 abbrev μ-loop : tie.MeasureT-loop
 μ-loop m departures driving delays i₀ i = m + 1 - i
 
-loop-holds : tie.Need-loop-holds Inv-loop μ-loop
-loop-holds c = search-first _ _ _
-
 -- a train was refused: it is the first
 returns : tie.Need-returns Inv-loop μ-loop
 returns c =
@@ -40,5 +37,5 @@ returns-2 c = search-end _ _ _ (c .before .loop .inv) (omega arith)
 pub check-trains-spec : {M : Type 1} → statement M
 check-trains-spec =
     tie.close
-    (tie.spec Inv-loop μ-loop loop-holds (λ c κs. search needs) (λ c. search needs) returns (λ c. search needs)
-    (λ c. search needs) (λ c. search needs) loop-again returns-2)
+    (tie.spec Inv-loop μ-loop (λ c. search-first _ _ _) (λ c κs. search needs) (λ c. search needs) returns
+    (λ c. search needs) (λ c. search needs) (λ c. search needs) loop-again returns-2)

@@ -9,12 +9,6 @@ use Rattle.sheet.specs.Checks.{earliestOf}
 use Rattle.sheet.proofs.checks.earliest.Statement.{statement}
 use Rattle.sheet.proofs.checks.earliest.Tie as tie
 
-cast-result : tie.Need-cast-result
-cast-result c = omega (arith, c .shared-slice-known3 .given (c .before .index .result))
-
-cast-result-2 : tie.Need-cast-result-2
-cast-result-2 c = omega (arith, c .shared-slice-known4 .given (c .before .before .index .result))
-
 -- two numbers below 2 ^ 32
 add-result : tie.Need-add-result
 add-result c =
@@ -39,4 +33,6 @@ pub earliest-spec : {M : Type 1} → statement M
 earliest-spec =
     tie.close
     (tie.spec (λ c κs. search needs) (λ c κs. search needs) (λ c κs. search needs) (λ c. search needs)
-    (λ c. search needs) cast-result (λ c. search needs) (λ c. search needs) cast-result-2 add-result returns returns-2)
+    (λ c. search needs) (λ c. omega (arith, c .shared-slice-known3 .given (c .before .index .result)))
+    (λ c. search needs) (λ c. search needs)
+    (λ c. omega (arith, c .shared-slice-known4 .given (c .before .before .index .result))) add-result returns returns-2)

@@ -8,21 +8,13 @@ use Rattle.sheet.proofs.Lengths.{square}
 use Rattle.sheet.proofs.format.bits_of.Statement.{statement}
 use Rattle.sheet.proofs.format.bits_of.Tie as tie
 
-mul-result : tie.Need-mul-result
-mul-result c = omega (arith, square (c .args .m) (c .pre))
-
-mul-result-2 : tie.Need-mul-result-2
-mul-result-2 c = omega (arith, square (c .args .m) (c .pre))
-
-add-result : tie.Need-add-result
-add-result c = omega (arith, square (c .args .m) (c .pre))
-
-add-result-2 : tie.Need-add-result-2
-add-result-2 c = omega (arith, square (c .args .m) (c .pre))
-
 returns : tie.Need-returns
 unfolding bitsOf
 returns c = refl
 
 pub bits-of-spec : {M : Type 1} → statement M
-bits-of-spec = tie.close (tie.spec mul-result mul-result-2 (λ c. search needs) add-result add-result-2 returns)
+bits-of-spec =
+    tie.close
+    (tie.spec (λ c. omega (arith, square (c .args .m) (c .pre))) (λ c. omega (arith, square (c .args .m) (c .pre)))
+    (λ c. search needs) (λ c. omega (arith, square (c .args .m) (c .pre)))
+    (λ c. omega (arith, square (c .args .m) (c .pre))) returns)

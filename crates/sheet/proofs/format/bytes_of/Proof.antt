@@ -8,12 +8,11 @@ use Rattle.sheet.proofs.Lengths.{bits-le}
 use Rattle.sheet.proofs.format.bytes_of.Statement.{statement}
 use Rattle.sheet.proofs.format.bytes_of.Tie as tie
 
-add-result : tie.Need-add-result
-add-result c = omega (arith, bits-le (c .before .args .m) (c .before .pre))
-
 returns : tie.Need-returns
 unfolding bytesOf
 returns c = rw (c .bits-of .ensures) refl
 
 pub bytes-of-spec : {M : Type 1} → statement M
-bytes-of-spec = tie.close (tie.spec (λ c κs. search needs) add-result returns)
+bytes-of-spec =
+    tie.close
+    (tie.spec (λ c κs. search needs) (λ c. omega (arith, bits-le (c .before .args .m) (c .before .pre))) returns)

@@ -26,9 +26,6 @@ before-fields c =
       inside,
     )
 
-mul-result-2 : tie.Need-mul-result-2
-mul-result-2 c = omega (arith, before-fields c)
-
 -- the fields of 64 trains are few
 add-result-2 : tie.Need-add-result-2
 add-result-2 c =
@@ -53,5 +50,5 @@ returns c =
 pub field-of-pair-spec : {M : Type 1} → statement M
 field-of-pair-spec =
     tie.close
-    (tie.spec (λ c κs. search needs) (λ c. search needs) (λ c. search needs) (λ c. search needs) mul-result-2
-    (λ c. search needs) (λ c. search needs) add-result-2 returns)
+    (tie.spec (λ c κs. search needs) (λ c. search needs) (λ c. search needs) (λ c. search needs)
+    (λ c. omega (arith, before-fields c)) (λ c. search needs) (λ c. search needs) add-result-2 returns)

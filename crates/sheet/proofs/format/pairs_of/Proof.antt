@@ -9,12 +9,12 @@ use Rattle.sheet.proofs.Lengths.{square}
 use Rattle.sheet.proofs.format.pairs_of.Statement.{statement}
 use Rattle.sheet.proofs.format.pairs_of.Tie as tie
 
-mul-result : tie.Need-mul-result
-mul-result c = omega (arith, mul-add (c .args .m) (c .args .m) 1, square (c .args .m) (c .pre))
-
 returns : tie.Need-returns
 unfolding pairsOf
 returns c = refl
 
 pub pairs-of-spec : {M : Type 1} → statement M
-pairs-of-spec = tie.close (tie.spec (λ c. search needs) mul-result returns)
+pairs-of-spec =
+    tie.close
+    (tie.spec (λ c. search needs)
+    (λ c. omega (arith, mul-add (c .args .m) (c .args .m) 1, square (c .args .m) (c .pre))) returns)

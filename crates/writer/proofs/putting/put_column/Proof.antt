@@ -18,9 +18,6 @@ Inv-loop sheet₀ n list first step width k₀ sheet k =
 abbrev μ-loop : tie.MeasureT-loop
 μ-loop sheet₀ n list first step width k₀ sheet k = n - k
 
-loop-holds : tie.Need-loop-holds Inv-loop μ-loop
-loop-holds c = (omega arith, column-none _ _ _)
-
 -- the field that this turn puts lies within the sheet
 reach : (c : tie.After-put-arg Inv-loop μ-loop) →
     let start = c .before .before .before .before .before .args in
@@ -30,12 +27,6 @@ reach c =
     let at-loop = c .before .before .loop in
     within-same (c .before .before .before .before .before .pre .within (at-loop .k) (c .before .loop-test .taken))
     (at-loop .inv .1 .long)
-
-mul-put : tie.Need-mul-put Inv-loop μ-loop
-mul-put c = omega (arith, reach c .near)
-
-add-put : tie.Need-add-put Inv-loop μ-loop
-add-put c = omega (arith, reach c .near)
 
 -- the place lies in the sheet, and its number fits the width
 put-requires : tie.Need-put-requires Inv-loop μ-loop
@@ -51,9 +42,6 @@ loop-again c =
     let spaced = at-loop .before .before .before .pre .spaced in
     (omega arith, column-next (at-loop .loop .inv .1) spaced (c .before .before .put .ensures))
 
-same-length : tie.Need-same-length Inv-loop μ-loop
-same-length c = c .before .loop .inv .1 .long
-
 -- all n are put
 returns : tie.Need-returns Inv-loop μ-loop
 returns c =
@@ -63,5 +51,6 @@ returns c =
 pub put-column-spec : {M : Type 1} → statement M
 put-column-spec =
     tie.close
-    (tie.spec Inv-loop μ-loop loop-holds mul-put add-put (λ c. search needs) (λ c. search needs) put-requires
-    (λ c. search needs) (λ c. search needs) loop-again same-length returns)
+    (tie.spec Inv-loop μ-loop (λ c. (omega arith, column-none _ _ _)) (λ c. omega (arith, reach c .near))
+    (λ c. omega (arith, reach c .near)) (λ c. search needs) (λ c. search needs) put-requires (λ c. search needs)
+    (λ c. search needs) loop-again (λ c. c .before .loop .inv .1 .long) returns)

@@ -13,9 +13,6 @@ entry-of c = c .before .before .before .before .before .before .before
 abbrev head-of : tie.After-put-times → tie.After-put-head
 head-of c = c .before .before .before .before
 
-put-head-requires : tie.Need-put-head-requires
-put-head-requires c κs = head-room _ _ _ (c .before .before .before .before .before .before .pre) refl
-
 -- the head left the length as it was
 put-times-requires : tie.Need-put-times-requires
 put-times-requires c κs =
@@ -45,5 +42,5 @@ returns c =
 pub put-sheet-spec : {M : Type 1} → statement M
 put-sheet-spec =
     tie.close
-    (tie.spec put-head-requires put-times-requires (λ c κs. search needs) put-column-requires (λ c κs. search needs)
-    (λ c. search needs) returns)
+    (tie.spec (λ c κs. head-room _ _ _ (c .before .before .before .before .before .before .pre) refl) put-times-requires
+    (λ c κs. search needs) put-column-requires (λ c κs. search needs) (λ c. search needs) returns)
