@@ -19,13 +19,13 @@ use Rattle.line.proofs.Bounds.{arrival-on-le}
 use Rattle.cells.specs.Timing.{slackIn, sourceIn, periodIn, runningIn}
 use Rattle.cells.specs.Sums.{leavingIn, boardedIn, aboardIn}
 use Rattle.cells.specs.Book.{bookIn, BookGiven}
-use Rattle.cells.specs.Costs.{excessIn, keepIn, goIn, withCosts, CostsAt, CostsAlong}
+use Rattle.cells.specs.Costs.{costsCount, excessIn, keepIn, goIn, withCosts, CostsAt, CostsAlong}
 use Rattle.cells.proofs.Leavers.{boarded-first, boarded-le, boarded-aboard, leaving-le, aboard-le}
 use Rattle.cells.proofs.Bounded.{running-in-range}
 
 -- ---- the three of station i stored
 
-module _ (costs : List ℕ) (i x y z : ℕ) (long : length costs ≡ 192) (least : 1 ≤ i) (most : i ≤ 64) where
+module _ (costs : List ℕ) (i x y z : ℕ) (long : length costs ≡ costsCount) (least : 1 ≤ i) (most : i ≤ 64) where
   abbrev one : List ℕ
   one = set costs (i - 1) x
 
@@ -79,7 +79,7 @@ module _ (m k : ℕ) (timing sums : List ℕ) where
     pub first : 1 ≤ k
     pub from : k ≤ i
     pub most : i ≤ m + 1
-    pub long : length costs ≡ 192
+    pub long : length costs ≡ costsCount
     -- what the slack at station i leaves of the delay is the excess there
     pub ahead : late - slackIn timing i ≡ excessOn R k i
     pub small : late ≤ latest
@@ -87,7 +87,7 @@ module _ (m k : ℕ) (timing sums : List ℕ) where
     pub done : (l : ℕ) → k ≤ l → l < i → CostsAt B k l costs
 
   -- the run begins on time
-  pub costs-start : (costs : List ℕ) (boarded : ℕ) → BookGiven m timing sums → 1 ≤ k → k ≤ m → length costs ≡ 192
+  pub costs-start : (costs : List ℕ) (boarded : ℕ) → BookGiven m timing sums → 1 ≤ k → k ≤ m → length costs ≡ costsCount
       → boarded ≡ boardedIn m sums k k → CostsTo costs 0 boarded k
   costs-start costs boarded given first last long e =
       record {

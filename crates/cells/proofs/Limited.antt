@@ -54,7 +54,8 @@ module _ (m i : ℕ) (cells : List ℕ) where
     | inr (r, e) ↦ e ∙ ap Refused (sym (row-refusal k r e))
   ]
 
-  pub later-over : (k : ℕ) → FirstOver m i cells k → laterVerdict m cells i ≡ Refused (OfReport (CellOverLimit (train k)))
+  pub later-over : (k : ℕ) → FirstOver m i cells k
+      → laterVerdict m cells i ≡ Refused (OfReport (CellOverLimit (train k)))
   unfolding laterVerdict rowVerdict
   later-over k h =
       first-refused (rowVerdict m cells) (i + 1) (m - i) k _ (omega (arith, h .after))

@@ -1,6 +1,7 @@
 -- What the two choices cost along the run that begins with train k, but for the cells that they rest on: one list with
 -- 64 places for the excess at each station, 64 for what keep costs, 64 for what go costs. Rows and walk both read it.
 -- Document 01, "The working cells". Stations count from 1.
+--   costsCount              how many places the list has
 --   excessIn costs l, keepIn costs l, goIn costs l     what stands there for station l
 --   withCosts costs l x y z     the list with x, y and z stored there
 --   CostsAt B k l costs         the list holds them at station l for the run from k of the book B
@@ -11,6 +12,9 @@ use mathlib.Core.Path.{_≡_}
 use mathlib.Core.List.{List}
 use lib.ListN.{length, getD, set}
 use Rattle.line.specs.Cells.{Book, excessOn, arrivalOn}
+
+abbrev pub costsCount : ℕ
+costsCount = 192
 
 unfoldable pub excessIn : List ℕ → ℕ → ℕ
 excessIn costs l = getD costs (l - 1) 0
@@ -32,5 +36,5 @@ pub record CostsAt (B : Book) (k l : ℕ) (costs : List ℕ) : Type 0 where
   pub go : goIn costs l ≡ B .period l * B .aboard k l
 
 pub record CostsAlong (B : Book) (k : ℕ) (costs : List ℕ) : Type 0 where
-  pub long : length costs ≡ 192
+  pub long : length costs ≡ costsCount
   pub each : (l : ℕ) → k ≤ l → l ≤ B .trains → CostsAt B k l costs

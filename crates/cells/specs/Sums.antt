@@ -1,5 +1,6 @@
 -- The sums of those who leave, by the station k where they board and the train l that they leave. Document 01, "The
 -- working cells". Stations and trains count from 1, places from 0.
+--   sumsCount                   how many places the list has
 --   placeOfSum k l              where the sum of station k and train l stands
 --   leavingIn sums k l          those who board at station k or later and leave train l
 --   boardedIn m sums k l        those who board at station k or later and leave train l or a later one
@@ -14,6 +15,9 @@ use lib.ListN.{length, getD}
 use Rattle.lists.specs.Run.{nth}
 use Rattle.line.specs.Sum.{sum_from_to_}
 use Rattle.line.specs.Ranges.{everyone}
+
+abbrev pub sumsCount : ℕ
+sumsCount = 4096
 
 -- A row to each station of boarding, in it a place to each of 64 trains. The cells have a place of their own.
 unfoldable pub placeOfSum : ℕ → ℕ → ℕ
@@ -31,7 +35,7 @@ aboardIn m sums k l = sum (λ t. leavingIn sums k t - leavingIn sums l t) from l
 
 pub record SumsGiven (m : ℕ) (sums : List ℕ) : Type 0 where
   pub trains : m ≤ 64
-  pub long : length sums ≡ 4096
+  pub long : length sums ≡ sumsCount
   pub most : (k : ℕ) → 1 ≤ k → k ≤ m → boardedIn m sums k k ≤ everyone
   -- of those who leave train t no more board at l or later than at k or later
   pub falls : (k l t : ℕ) → 1 ≤ k → k ≤ l → l ≤ t → t ≤ m → leavingIn sums l t ≤ leavingIn sums k t

@@ -1,6 +1,7 @@
 -- The times of a line as one list: 64 places for the slack at each station, 64 for the source delay of each train, 64
 -- for the period at each station. It is prepared once from a sheet's numbers; everything that follows a delay or counts
 -- a missed connection reads it. Document 01, "The line and its numbers". Trains and stations count from 1.
+--   timingCount             how many places the list has
 --   placeOfSlack s, placeOfSource i, placeOfPeriod s     where they stand in the list, counted from 0
 --   slackIn timing s, sourceIn timing i, periodIn timing s     what stands there
 --   runningIn timing        how the trains run
@@ -11,6 +12,9 @@ use mathlib.Core.Path.{_≡_}
 use mathlib.Core.List.{List}
 use lib.ListN.{length, getD}
 use Rattle.line.specs.Line.{Running}
+
+abbrev pub timingCount : ℕ
+timingCount = 192
 
 abbrev pub placeOfSlack : ℕ → ℕ
 placeOfSlack s = s - 1
@@ -34,9 +38,9 @@ periodIn timing s = getD timing (placeOfPeriod s) 0
 abbrev pub runningIn : List ℕ → Running
 runningIn timing = record { slack = slackIn timing; arrive = λ i x. x + sourceIn timing i }
 
--- 192 places; no source delay and no period is over 1,440
+-- no source delay and no period is over 1,440
 pub record TimingGiven (m : ℕ) (timing : List ℕ) : Type 0 where
   pub trains : m ≤ 64
-  pub long : length timing ≡ 192
+  pub long : length timing ≡ timingCount
   pub source : (i : ℕ) → 1 ≤ i → i ≤ m → sourceIn timing i ≤ 1440
   pub period : (s : ℕ) → 1 ≤ s → s ≤ m → periodIn timing s ≤ 1440

@@ -5,7 +5,8 @@ ghost use Prim.Native.Nat.{_≤_};
 ghost use lib.ListN.{length};
 ghost use Rattle.cells.specs.Sums.{Boarders};
 ghost use Rattle.cells.specs.Book.{bookIn, BookGiven};
-ghost use Rattle.cells.specs.Costs.{excessIn, keepIn, goIn, withCosts, CostsAlong};
+ghost use Rattle.cells.specs.Costs.{costsCount, excessIn, keepIn, goIn, withCosts};
+ghost use Rattle.cells.specs.Costs.{CostsAlong};
 use crate::sums::leaving;
 use crate::timing::arrives;
 use crate::timing::cost;
@@ -14,14 +15,16 @@ use crate::timing::period_at;
 use terms::Station;
 use terms::Train;
 
-// Where the costs of keep and of go begin.
+// The places of the list, and where the costs of keep and of go begin.
+pub const COSTS: usize = 192;
+
 const KEEPS: usize = 64;
 
 const GOES: usize = 128;
 
 // The excess at a station of the run.
 pub fn excess_on(costs: &[u64], station: Station) -> u64
-    requires { ⌜ (1 ≤ station .0) × (station .0 ≤ 64) × (length (now costs) ≡ 192) ⌝ }
+    requires { ⌜ (1 ≤ station .0) × (station .0 ≤ 64) × (length (now costs) ≡ costsCount) ⌝ }
     ensures { λ r. ⌜ r ≡ excessIn (now (costs .entry)) (station .0) ⌝ }
 {
     costs[station.index()]
@@ -29,7 +32,7 @@ pub fn excess_on(costs: &[u64], station: Station) -> u64
 
 // What keep costs there, but for the cell after it.
 pub fn keep_on(costs: &[u64], station: Station) -> u64
-    requires { ⌜ (1 ≤ station .0) × (station .0 ≤ 64) × (length (now costs) ≡ 192) ⌝ }
+    requires { ⌜ (1 ≤ station .0) × (station .0 ≤ 64) × (length (now costs) ≡ costsCount) ⌝ }
     ensures { λ r. ⌜ r ≡ keepIn (now (costs .entry)) (station .0) ⌝ }
 {
     costs[KEEPS + station.index()]
@@ -37,7 +40,7 @@ pub fn keep_on(costs: &[u64], station: Station) -> u64
 
 // What go costs there, but for the cell on the diagonal.
 pub fn go_on(costs: &[u64], station: Station) -> u64
-    requires { ⌜ (1 ≤ station .0) × (station .0 ≤ 64) × (length (now costs) ≡ 192) ⌝ }
+    requires { ⌜ (1 ≤ station .0) × (station .0 ≤ 64) × (length (now costs) ≡ costsCount) ⌝ }
     ensures { λ r. ⌜ r ≡ goIn (now (costs .entry)) (station .0) ⌝ }
 {
     costs[GOES + station.index()]
@@ -45,7 +48,7 @@ pub fn go_on(costs: &[u64], station: Station) -> u64
 
 // Stores all three of a station.
 fn put_costs(costs: &mut [u64], station: Station, excess: u64, keep: u64, go: u64)
-    requires { ⌜ (1 ≤ station .0) × (station .0 ≤ 64) × (length (now costs) ≡ 192) ⌝ }
+    requires { ⌜ (1 ≤ station .0) × (station .0 ≤ 64) × (length (now costs) ≡ costsCount) ⌝ }
     ensures { λ _. ⌜ now (costs .exit) ≡
         withCosts (now (costs .entry)) (station .0) excess keep go ⌝ }
 {
@@ -67,7 +70,7 @@ pub fn costs_along(
     boarding: &[u64],
 )
     requires { ⌜ BookGiven m (now timing) (now sums) × Boarders m (now sums) (now boarding) ×
-        (1 ≤ first .0) × (first .0 ≤ m) × (length (now costs) ≡ 192) ⌝ }
+        (1 ≤ first .0) × (first .0 ≤ m) × (length (now costs) ≡ costsCount) ⌝ }
     ensures { λ _. ⌜ CostsAlong (bookIn m (now (timing .entry)) (now (sums .entry)))
         (first .0) (now (costs .exit)) ⌝ }
 {

@@ -6,6 +6,9 @@ ghost use Rattle.cells.specs.Place.{cellCount, place, tableOf};
 use terms::Station;
 use terms::Train;
 
+// How many working cells are lent.
+pub const CELLS: usize = 4096;
+
 // The cell of the run from `first` at station `at`, of a line of `m` trains. In this layout it
 // stands in the same place whatever `m` is.
 pub fn place(m: u32, first: Train, at: Station) -> usize

@@ -9,6 +9,9 @@ use crate::timing::wide;
 use terms::Station;
 use terms::Train;
 
+// The places of the list.
+pub const SUMS: usize = 4096;
+
 // Where the sum stands of those who board at `from` or later and leave `train`; no other function
 // knows.
 pub fn place_of_sum(from: Station, train: Train) -> usize
@@ -43,7 +46,7 @@ fn boarded(sums: &[u32], m: u32, from: Station, train: Train) -> u64
     sum
 }
 
-// By station, those who board there or later. Places after the last station stand.
+// By station, those who board there or later.
 pub fn boarders(boarding: &mut [u64], sums: &[u32], m: u32)
     requires { ⌜ SumsGiven m (now sums) × (length (now boarding) ≡ 64) ⌝ }
     ensures { λ _. ⌜ Boarders m (now (sums .entry)) (now (boarding .exit)) ⌝ }

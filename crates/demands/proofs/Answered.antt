@@ -19,6 +19,8 @@ use Rattle.terms.specs.Refusal.{blanksOf}
 use Rattle.terms.specs.Verdict.{_andThen_, numberIn, placeIn}
 use Rattle.terms.proofs.Checks.{fine-or-refused}
 use Rattle.terms.proofs.Refusing.{zero-is-fine}
+use Rattle.terms.specs.declared.Answer.{Answer}
+use Rattle.terms.specs.Answer.{answerNumber, answerPlace, answerCarries}
 use Rattle.line.specs.Line.{Line, lineFrom}
 use Rattle.line.specs.Cells.{bookOf}
 use Rattle.line.specs.Ranges.{limit, LineInRange}
@@ -33,15 +35,13 @@ use Rattle.sheet.proofs.Refusals.{sheet-refusal-blanks}
 use Rattle.sheet.proofs.Amend.{replaced-numbers, replaced-accepted}
 use Rattle.cells.specs.Place.{InUse}
 use Rattle.cells.proofs.Shown.{shown-length}
+use Rattle.prepare.specs.LineOf.{lineOf}
+use Rattle.prepare.proofs.Lines.{line-in-range}
 use Rattle.planner.specs.ReportChecks.{Reportable}
 use Rattle.planner.proofs.Reportable.{own-no-train, own-too-late, own-over}
-use Rattle.prepare.specs.LineOf.{lineOf}
 use Rattle.planner.specs.Buffers.{Buffers, RightLengths, Blanked}
 use Rattle.planner.specs.Settled.{Settled}
-use Rattle.prepare.proofs.Lines.{line-in-range}
 use Rattle.planner.proofs.Outcome.{outcome-number, outcome-place, refused-carries}
-use Rattle.terms.specs.declared.Answer.{Answer}
-use Rattle.terms.specs.Answer.{answerNumber, answerPlace, answerCarries}
 use Rattle.planner.specs.Buffers.{buffersVerdict}
 use Rattle.planner.specs.Outcome.{Outcome}
 use Rattle.planner.specs.Plan.{planVerdict, Planned, Plan}

@@ -19,7 +19,6 @@ use Rattle.line.proofs.Worked.{cell-means}
 use Rattle.line.proofs.Plan.{plan-alike}
 use Rattle.sheet.specs.Numbers.{numbersOf}
 use Rattle.sheet.specs.Checks.{sheetVerdict}
-use Rattle.demands.proofs.RoundTrip.{read-then-write, write-then-read, equal-fields}
 use Rattle.cells.proofs.Places.{table-in}
 use Rattle.cells.specs.Shown.{byteOf, shown, policyIn}
 use Rattle.cells.proofs.Shown.{shown-same}
@@ -28,6 +27,7 @@ use Rattle.planner.specs.Buffers.{Buffers}
 use Rattle.planner.specs.Plan.{planVerdict, Planned}
 use Rattle.planner.proofs.Refusals.{accepted-of-plan}
 use Rattle.planner.proofs.Outcome.{plan-outcome-one, report-outcome-one}
+use Rattle.demands.proofs.RoundTrip.{read-then-write, write-then-read, equal-fields}
 use Rattle.demands.specs.Calling.{operations}
 use Rattle.demands.specs.Answered.{Demand1}
 use Rattle.demands.specs.Least.{LeastPlan, Demand2}

@@ -19,6 +19,7 @@ use Rattle.terms.specs.declared.Refusal.{Refusal}
 use Rattle.terms.specs.declared.Verdict.the-variants.{Fine}
 use Rattle.terms.specs.Refusal.{blanksOf}
 use Rattle.terms.proofs.Checks.{refused-not-fine, fine-or-refused}
+use Rattle.terms.specs.declared.Answer.the-variants.{Accepted, Refused as AnswerRefused}
 use Rattle.line.specs.Line.{lineFrom}
 use Rattle.line.specs.Policy.{Policy, arrival}
 use Rattle.line.specs.Cells.{Table, Book, bookOf, Worked, decide}
@@ -34,7 +35,6 @@ use Rattle.cells.proofs.Places.{place-lt, place-one, in-use-or-not, table-in, t
 use Rattle.prepare.specs.LineOf.{lineOf}
 use Rattle.planner.specs.Buffers.{Buffers, buffers, RefusedFor}
 use Rattle.planner.specs.Settled.{Settled}
-use Rattle.terms.specs.declared.Answer.the-variants.{Accepted, Refused as AnswerRefused}
 use Rattle.planner.specs.Plan.{planVerdict}
 use Rattle.planner.specs.Report.{reportVerdict}
 use Rattle.planner.proofs.Refusals.{accepted-of-plan, accepted-of-report}

@@ -15,6 +15,8 @@ use Rattle.lists.proofs.Run.{listed-each, listed-padded, padded-same}
 use Rattle.terms.specs.declared.Verdict.{Verdict}
 use Rattle.terms.specs.declared.Verdict.the-variants.{Fine}
 use Rattle.terms.specs.Answer.{answerCarries, answerOf}
+use Rattle.terms.specs.declared.Answer.{Answer}
+use Rattle.terms.specs.declared.Answer.the-variants.{Accepted}
 use Rattle.line.specs.Line.{Line, lineFrom}
 use Rattle.line.specs.Policy.{Decision, Keep, Policy, arrival, total}
 use Rattle.line.specs.Cells.{Table, bookOf, Worked}
@@ -34,8 +36,6 @@ use Rattle.cells.proofs.Places.{table-in}
 use Rattle.cells.proofs.Shown.{shown-same}
 use Rattle.prepare.specs.LineOf.{lineOf}
 use Rattle.planner.specs.Buffers.{Buffers, RightLengths}
-use Rattle.terms.specs.declared.Answer.{Answer}
-use Rattle.terms.specs.declared.Answer.the-variants.{Accepted}
 use Rattle.planner.specs.Plan.{planVerdict, Planned, Plan}
 use Rattle.planner.proofs.Refusals.{checks-right}
 use Rattle.demands.specs.Sheets.{decisionBytes, Leaves}

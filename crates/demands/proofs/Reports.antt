@@ -8,6 +8,8 @@ use native.Mathlib.Omega.{arith}
 use Rattle.lists.specs.Choice.{ifSame}
 use Rattle.lists.specs.Run.{runOf, listed}
 use Rattle.bits.specs.Field.{bitAt, fieldOf}
+use Rattle.terms.specs.declared.Answer.{Answer}
+use Rattle.terms.specs.Answer.{answerNumber}
 use Rattle.line.specs.Line.{Line, lineFrom}
 use Rattle.line.specs.Alike.{LinesAlike}
 use Rattle.line.specs.Answers.{PlanAnswer, CaseAnswer}
@@ -21,10 +23,8 @@ use Rattle.sheet.proofs.Facts.{accepted-of-fine, fine-of-accepted}
 use Rattle.sheet.proofs.Meaning.{same-both, same-sym}
 use Rattle.sheet.proofs.Amend.{replaced-numbers, with-delay-same}
 use Rattle.prepare.specs.LineOf.{lineOf}
-use Rattle.planner.specs.Buffers.{Buffers, RightLengths}
 use Rattle.prepare.proofs.Lines.{lines-of-same}
-use Rattle.terms.specs.declared.Answer.{Answer}
-use Rattle.terms.specs.Answer.{answerNumber}
+use Rattle.planner.specs.Buffers.{Buffers, RightLengths}
 use Rattle.demands.specs.Sheets.{sheetB, Leaves, ReportAfterB4, AnswersB7, AnswersB8}
 use Rattle.demands.specs.Calling.{operations}
 use Rattle.demands.specs.Runs.{InRun, planned, reported, ReportInRun}

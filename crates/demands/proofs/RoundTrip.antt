@@ -9,8 +9,14 @@ use lib.ListN.{length, take}
 use lib.Seq.{ext-getD, getD-take, length-take-le}
 use Rattle.lists.specs.Run.{nth, padded}
 use Rattle.lists.proofs.Run.{padded-length, padded-nth}
+use Rattle.bits.specs.Field.{Bytes}
 use Rattle.terms.specs.declared.Verdict.the-variants.{Fine}
 use Rattle.terms.proofs.Checks.{then-fine, fine-then}
+use Rattle.terms.specs.Answer.{answerOf}
+use Rattle.terms.proofs.Answers.{accepted-answer}
+use Rattle.terms.specs.declared.Verdict.{Verdict}
+use Rattle.terms.specs.declared.Answer.{Answer}
+use Rattle.terms.specs.declared.Answer.the-variants.{Accepted as WriteAccepted}
 use Rattle.sheet.specs.Format.{trainsOf, periodOf, departureOf, drivingOf, delayOf, passengersOf, bytesOf, pairsOf}
 use Rattle.sheet.specs.Numbers.{Lists, lists, numbersOf}
 use Rattle.sheet.specs.Checks.{sheetVerdict}
@@ -18,19 +24,13 @@ use Rattle.sheet.specs.Accepted.{Lengths, AcceptedSheet, SameNumbers, SheetOf}
 use Rattle.sheet.proofs.Lengths.{pairs-le}
 use Rattle.sheet.proofs.Facts.{fine-of-lengths, accepted-of-fine, fine-of-accepted}
 use Rattle.sheet.proofs.Meaning.{same-sym, in-range-same, sheet-of-one, sheet-of-accepted, accepted-sheet-of}
+use Rattle.writer.specs.Write.{Given, numbersGiven, writeVerdict, Write, Accepts}
+use Rattle.writer.proofs.Facts.{accepts-of-fine, fine-of-accepts}
 use Rattle.reader.specs.Reading.{readingOf}
 use Rattle.reader.specs.Read.{readVerdict, Read}
 use Rattle.reader.proofs.ReadingOf.{accepted-fine}
-use Rattle.writer.specs.Write.{Given, numbersGiven, writeVerdict, Write, Accepts}
-use Rattle.terms.specs.Answer.{answerOf}
-use Rattle.terms.proofs.Answers.{accepted-answer}
-use Rattle.writer.proofs.Facts.{accepts-of-fine, fine-of-accepts}
-use Rattle.terms.specs.declared.Verdict.{Verdict}
-use Rattle.bits.specs.Field.{Bytes}
 use Rattle.reader.specs.declared.Reading.{Reading}
 use Rattle.reader.specs.declared.Reading.the-variants.{Accepted as ReadAccepted}
-use Rattle.terms.specs.declared.Answer.{Answer}
-use Rattle.terms.specs.declared.Answer.the-variants.{Accepted as WriteAccepted}
 use Rattle.demands.specs.OneMeaning.{givenFrom, ReadThenWrite, WriteThenRead, EqualFields}
 
 pub equal-fields : EqualFields

@@ -15,6 +15,9 @@ use Rattle.terms.specs.declared.Verdict.the-variants.{Fine, Refused}
 use Rattle.terms.specs.Verdict.{numberIn}
 use Rattle.terms.proofs.Checks.{refused-not-fine, fine-or-refused}
 use Rattle.terms.proofs.Refusing.{Only, only-of, only-then}
+use Rattle.terms.specs.declared.Answer.{Answer}
+use Rattle.terms.specs.declared.Answer.the-variants.{Accepted}
+use Rattle.terms.specs.Answer.{answerNumber, answerCarries, answerOf}
 use Rattle.line.specs.Line.{Line, lineFrom}
 use Rattle.line.specs.Cells.{Table, Book, bookOf, Worked}
 use Rattle.line.proofs.Alike.{books-of-lines}
@@ -31,15 +34,12 @@ use Rattle.sheet.proofs.Amend.{replaced-numbers, replaced-accepted}
 use Rattle.cells.specs.Place.{tableOf, InUse}
 use Rattle.cells.specs.Limits.{CellsInRange}
 use Rattle.cells.proofs.Places.{table-in}
-use Rattle.planner.specs.ReportChecks.{reportChecks, ownVerdict, Reportable}
 use Rattle.cells.proofs.Limited.{fine-of-later}
 use Rattle.prepare.specs.LineOf.{lineOf}
+use Rattle.prepare.proofs.Lines.{line-in-range, lines-after}
+use Rattle.planner.specs.ReportChecks.{reportChecks, ownVerdict, Reportable}
 use Rattle.planner.specs.Buffers.{Buffers, RightLengths}
 use Rattle.planner.specs.Settled.{Settled}
-use Rattle.prepare.proofs.Lines.{line-in-range, lines-after}
-use Rattle.terms.specs.declared.Answer.{Answer}
-use Rattle.terms.specs.declared.Answer.the-variants.{Accepted}
-use Rattle.terms.specs.Answer.{answerNumber, answerCarries, answerOf}
 use Rattle.planner.specs.Outcome.{Outcome}
 use Rattle.planner.specs.Plan.{planVerdict, Planned, Plan}
 use Rattle.planner.specs.Report.{reportVerdict, Reported, Report}

@@ -9,11 +9,11 @@ use Rattle.lists.specs.Run.{nth, padded}
 use Rattle.lists.proofs.Choice.{below-yes}
 use Rattle.lists.proofs.Order.{zero-not-one}
 use Rattle.lists.proofs.Run.{padded-nth}
+use Rattle.terms.specs.Answer.{answerCarries}
 use Rattle.line.specs.Cases.{b4, b6, b7}
 use Rattle.sheet.proofs.Facts.{accepted-of-fine}
 use Rattle.cells.specs.Shown.{shown}
 use Rattle.cells.specs.Limits.{FirstOver}
-use Rattle.terms.specs.Answer.{answerCarries}
 use Rattle.demands.specs.Sheets.{sheetB, decisionBytes}
 use Rattle.demands.specs.Useless.{RefusesAllBreaks, SameDecisionsBreak, AllKeepBreaks, DoesNothingBreaks}
 use Rattle.demands.specs.Useless.{DecisionsStayBreak, StaysBlankBreaks, RepeatsPlanBreaks, WritesEarlyBreaks}

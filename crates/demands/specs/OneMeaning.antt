@@ -9,18 +9,18 @@ use Prim.Native.Nat.{ℕ}
 use mathlib.Core.Path.{_≡_}
 use mathlib.Core.List.{List}
 use lib.ListN.{length, take}
-use Rattle.terms.specs.declared.Verdict.the-variants.{Fine}
 use Rattle.bits.specs.Field.{Bytes}
+use Rattle.terms.specs.declared.Verdict.the-variants.{Fine}
+use Rattle.terms.specs.declared.Answer.{Answer}
+use Rattle.terms.specs.declared.Answer.the-variants.{Accepted as WriteAccepted}
 use Rattle.sheet.specs.Format.{pairsOf}
 use Rattle.sheet.specs.Numbers.{Lists, lists, numbersOf}
 use Rattle.sheet.specs.Checks.{sheetVerdict}
 use Rattle.sheet.specs.Accepted.{Lengths, SameNumbers}
+use Rattle.writer.specs.Write.{Given, given, Write}
 use Rattle.reader.specs.declared.Reading.{Reading}
 use Rattle.reader.specs.declared.Reading.the-variants.{Accepted as ReadAccepted}
 use Rattle.reader.specs.Read.{Read}
-use Rattle.terms.specs.declared.Answer.{Answer}
-use Rattle.terms.specs.declared.Answer.the-variants.{Accepted as WriteAccepted}
-use Rattle.writer.specs.Write.{Given, given, Write}
 
 -- the first m places of three lists and the first m(m+1)/2 of the fourth, as write takes them
 abbrev pub givenFrom : ℕ → ℕ → Lists → Given

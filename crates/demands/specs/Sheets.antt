@@ -15,13 +15,13 @@ use mathlib.Core.Path.{_≡_}
 use mathlib.Core.List.{List, [], _∷_, map}
 use lib.ListN.{getD}
 use Rattle.lists.specs.Run.{nth, padded}
+use Rattle.terms.specs.declared.Answer.{Answer}
+use Rattle.terms.specs.declared.Answer.the-variants.{Accepted}
 use Rattle.line.specs.Answers.{tableFrom, CaseAnswer}
 use Rattle.line.specs.Cases.{a as caseA, b4, b6, b7, b8}
 use Rattle.sheet.specs.SheetA.{sheetA}
 use Rattle.cells.specs.Place.{place}
 use Rattle.cells.specs.Shown.{byteOf}
-use Rattle.terms.specs.declared.Answer.{Answer}
-use Rattle.terms.specs.declared.Answer.the-variants.{Accepted}
 use Rattle.planner.specs.Buffers.{Buffers, RightLengths}
 use Rattle.planner.specs.Plan.{Plan}
 use Rattle.planner.specs.Report.{Report}

@@ -21,13 +21,13 @@ use Rattle.terms.specs.declared.Refusal.{Refusal}
 use Rattle.terms.specs.declared.ReportFault.the-variants.{CellOverLimit}
 use Rattle.terms.specs.declared.Refusal.the-variants.{OfReport}
 use Rattle.terms.specs.Refusal.{train}
+use Rattle.terms.specs.declared.Answer.{Answer}
+use Rattle.terms.specs.declared.Answer.the-variants.{Refused as AnswerRefused}
 use Rattle.line.specs.Policy.{Keep}
 use Rattle.line.specs.Cases.{b4}
 use Rattle.cells.specs.Shown.{shown}
-use Rattle.terms.specs.declared.Answer.{Answer}
-use Rattle.terms.specs.declared.Answer.the-variants.{Refused as AnswerRefused}
-use Rattle.planner.specs.Buffers.{Buffers, RightLengths}
 use Rattle.cells.specs.Limits.{FirstOver}
+use Rattle.planner.specs.Buffers.{Buffers, RightLengths}
 use Rattle.planner.specs.Plan.{Plan}
 use Rattle.planner.specs.Report.{Report}
 use Rattle.demands.specs.Calling.{operations}

@@ -12,9 +12,9 @@ use Rattle.lists.specs.Run.{nth}
 use Rattle.lists.proofs.Order.{same-or-not}
 use Rattle.terms.specs.declared.Refusal.{Refusal}
 use Rattle.terms.specs.declared.Verdict.{Verdict}
-use Rattle.planner.specs.Buffers.{Buffers}
 use Rattle.terms.specs.declared.Answer.{Answer}
 use Rattle.terms.specs.Answer.{answerNumber, answerPlace, answerCarries}
+use Rattle.planner.specs.Buffers.{Buffers}
 use Rattle.planner.specs.Plan.{Plan}
 use Rattle.planner.specs.Report.{Report}
 use Rattle.demands.specs.Calling.{operations}

@@ -12,14 +12,14 @@ use Rattle.terms.specs.Verdict.{numberIn, placeIn}
 use Rattle.terms.specs.Answer.{answerNumber, answerCarries}
 use Rattle.terms.proofs.Checks.{fine-or-refused, if-fine, if-refused}
 use Rattle.line.specs.Line.{lineFrom}
+use Rattle.writer.proofs.Outcome.{write-one, write-number, write-place, write-length}
+use Rattle.reader.proofs.Stored.{read-one, read-number, read-place, read-trains, read-period}
 use Rattle.prepare.specs.LineOf.{lineOf}
 use Rattle.planner.specs.Buffers.{Buffers}
 use Rattle.planner.specs.Outcome.{Outcome}
 use Rattle.planner.specs.Plan.{planVerdict, Plan}
 use Rattle.planner.specs.Report.{reportVerdict}
 use Rattle.planner.proofs.Outcome.{outcome-number, outcome-place, refused-carries}
-use Rattle.reader.proofs.Stored.{read-one, read-number, read-place, read-trains, read-period}
-use Rattle.writer.proofs.Outcome.{write-one, write-number, write-place, write-length}
 use Rattle.demands.proofs.Demands.{demand-2}
 use Rattle.oblachura.specs.AnswerNumbers.{answerNumbers}
 use Rattle.oblachura.specs.Calls.{PlanCall, Lent, ReportLeaves, ReportCall}

@@ -11,12 +11,12 @@ use Rattle.bits.specs.Field.{Bytes}
 use Rattle.terms.specs.declared.ListFault.the-variants.{BufferLength}
 use Rattle.terms.specs.declared.Refusal.the-variants.{OfList}
 use Rattle.terms.specs.Refusal.{numberOf}
+use Rattle.terms.specs.declared.Answer.{Answer}
+use Rattle.terms.specs.Answer.{answerNumber, answerPlace}
 use Rattle.sheet.specs.Accepted.{AcceptedSheet}
 use Rattle.sheet.specs.Numbers.{numbersOf}
 use Rattle.prepare.specs.LineOf.{lineOf}
 use Rattle.planner.specs.Buffers.{Buffers}
-use Rattle.terms.specs.declared.Answer.{Answer}
-use Rattle.terms.specs.Answer.{answerNumber, answerPlace}
 use Rattle.planner.specs.Plan.{Plan}
 use Rattle.planner.proofs.Outcome.{plan-outcome-one, report-outcome-one}
 use Rattle.demands.specs.Calling.{Right}

@@ -7,9 +7,9 @@ use mathlib.Core.Logic.{inl, inr}
 use mathlib.Core.List.{List}
 use lib.ListN.{length, getD}
 use Rattle.lists.proofs.Order.{same-or-not}
+use Rattle.terms.specs.Answer.{answerNumber}
 use Rattle.sheet.specs.Format.{trainsOf}
 use Rattle.planner.specs.Buffers.{Buffers}
-use Rattle.terms.specs.Answer.{answerNumber}
 use Rattle.demands.specs.Calling.{Right, operations}
 use Rattle.demands.specs.Runs.{InRun, planned, reported, refused-with-other-cells, refused-with-other-sheet}
 use Rattle.demands.specs.Runs.{refused-plan, Agrees, ReportInRun}

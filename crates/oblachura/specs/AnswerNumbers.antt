@@ -5,10 +5,10 @@
 -- Assumes nothing.
 use Prim.Native.Nat.{ℕ}
 use mathlib.Core.List.{List, _∷_, []}
-use Rattle.reader.specs.declared.Reading.{Reading}
-use Rattle.reader.specs.Reading.{readNumber, readPlace, readTrains, readPeriod}
 use Rattle.terms.specs.declared.Answer.{Answer}
 use Rattle.terms.specs.Answer.{answerNumber, answerPlace, answerCarries}
+use Rattle.reader.specs.declared.Reading.{Reading}
+use Rattle.reader.specs.Reading.{readNumber, readPlace, readTrains, readPeriod}
 
 abbrev pub readNumbers : Reading → List ℕ
 readNumbers a = readNumber a ∷ readPlace a ∷ readTrains a ∷ readPeriod a ∷ []

@@ -17,8 +17,8 @@ use Rattle.terms.specs.Verdict.{ifFine, numberIn, placeIn}
 use Rattle.line.specs.Policy.{total}
 use Rattle.sheet.specs.Format.{trainsOf, periodOf, bytesOf}
 use Rattle.sheet.specs.Numbers.{Lists, numbersOf}
-use Rattle.reader.specs.Read.{readVerdict}
 use Rattle.writer.specs.Write.{Given, writeVerdict}
+use Rattle.reader.specs.Read.{readVerdict}
 use Rattle.cells.specs.Place.{tableOf}
 use Rattle.cells.specs.Shown.{policyIn}
 use Rattle.prepare.specs.LineOf.{lineOf}

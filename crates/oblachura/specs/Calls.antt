@@ -10,13 +10,13 @@
 -- Assumes nothing.
 use Prim.Native.Nat.{ℕ}
 use mathlib.Core.List.{List}
-use Rattle.sheet.specs.Numbers.{Lists}
-use Rattle.reader.specs.Reading.{readNumber}
-use Rattle.reader.specs.Read.{Read}
-use Rattle.writer.specs.Write.{Given, Write}
-use Rattle.planner.specs.Buffers.{Buffers}
 use Rattle.terms.specs.declared.Answer.{Answer}
 use Rattle.terms.specs.Answer.{answerNumber}
+use Rattle.sheet.specs.Numbers.{Lists}
+use Rattle.writer.specs.Write.{Given, Write}
+use Rattle.reader.specs.Reading.{readNumber}
+use Rattle.reader.specs.Read.{Read}
+use Rattle.planner.specs.Buffers.{Buffers}
 use Rattle.planner.specs.Plan.{Plan}
 use Rattle.planner.specs.Report.{Report}
 use Rattle.oblachura.specs.AnswerNumbers.{readNumbers, answerNumbers}

@@ -7,12 +7,12 @@ use mathlib.Core.List.{List}
 use lib.Dec.{lit≤}
 use Rattle.bits.specs.Field.{fieldOf, Within}
 use Rattle.terms.proofs.Answers.{accepted-answer}
+use Rattle.terms.specs.declared.Answer.{Answer}
+use Rattle.terms.specs.declared.Answer.the-variants.{Accepted}
 use Rattle.sheet.specs.Format.{trainsOf}
 use Rattle.sheet.specs.Accepted.{AcceptedSheet}
 use Rattle.sheet.proofs.Lengths.{bytes-bits, layout}
 use Rattle.planner.specs.Buffers.{Buffers}
-use Rattle.terms.specs.declared.Answer.{Answer}
-use Rattle.terms.specs.declared.Answer.the-variants.{Accepted}
 use Rattle.planner.specs.Plan.{planVerdict, Plan}
 use Rattle.planner.proofs.Refusals.{accepted-of-plan}
 

@@ -46,7 +46,8 @@ module _ (m i v : ℕ) (cells : List ℕ) where
   pub own-over : 1 ≤ i → i ≤ m → v ≤ 1440 → (k : ℕ) → FirstOver m i cells k
       → ownVerdict m i v cells ≡ Refused (OfReport (CellOverLimit (train k)))
   unfolding ownVerdict reportChecks
-  own-over a b small k h = sym (then-pass _ _ _ (fine-of-passed _ (a, (b, (small, tt)))) (sym (later-over m i cells k h)))
+  own-over a b small k h =
+      sym (then-pass _ _ _ (fine-of-passed _ (a, (b, (small, tt)))) (sym (later-over m i cells k h)))
 
   pub own-refusal-blanks : (r : Refusal) → ownVerdict m i v cells ≡ Refused r → blanksOf r ≡ true
   unfolding ownVerdict reportChecks

@@ -9,8 +9,11 @@ ghost use Rattle.sheet.specs.Checks.{sheetVerdict};
 ghost use Rattle.cells.specs.Place.{cellCount};
 ghost use Rattle.prepare.specs.Prepared.{Prepared};
 ghost use Rattle.planner.specs.Buffers.{bufferLengthsVerdict};
+ghost use Rattle.cells.specs.Sums.{sumsCount};
+ghost use Rattle.cells.specs.Timing.{timingCount};
 ghost use Rattle.planner.specs.ReportChecks.{reportChecks, ownVerdict};
 use cells::limits::check_rows_after;
+use cells::place::CELLS;
 use prepare::prepare;
 use reader::Reading;
 use terms::ListFault;
@@ -23,7 +26,7 @@ use terms::Verdict;
 pub fn check_buffers(cells: usize, decisions: usize, delays: usize) -> Verdict
     ensures { λ r. ⌜ r ≡ bufferLengthsVerdict cells decisions delays ⌝ }
 {
-    if cells != 4096 {
+    if cells != CELLS {
         return Verdict::Refused(Refusal::OfList(ListFault::BufferLength));
     }
     if decisions != 64 {
@@ -75,7 +78,7 @@ pub fn check_report(
     sums: &mut [u32],
 ) -> Reading
     requires { ⌜ (earlier ≡ Verdict.Fine → length (now cells) ≡ cellCount)
-        × (length (now timing) ≡ 192) × (length (now sums) ≡ 4096) ⌝ }
+        × (length (now timing) ≡ timingCount) × (length (now sums) ≡ sumsCount) ⌝ }
     ensures { λ r. ⌜ Prepared
         (earlier andThen sheetVerdict (now (sheet .entry))
         andThen ownVerdict (trainsOf (now (sheet .entry))) (train .0) delay

@@ -10,7 +10,7 @@ ghost use lib.ListN.{length, replicate, set};
 ghost use Rattle.lists.specs.Choice.{if_then_else_};
 ghost use Rattle.terms.specs.Refusal.{blanksOf};
 ghost use Rattle.sheet.specs.Accepted.{DelayReplaced};
-ghost use Rattle.cells.specs.Timing.{placeOfSource};
+ghost use Rattle.cells.specs.Timing.{timingCount, placeOfSource};
 ghost use Rattle.planner.specs.Buffers.{buffers};
 ghost use Rattle.planner.specs.Plan.{Plan};
 ghost use Rattle.planner.specs.Report.{Report};
@@ -19,6 +19,8 @@ use crate::checking::check_buffers;
 use crate::checking::check_report;
 use crate::settling::settle;
 use bits::put;
+use cells::sums::SUMS;
+use cells::timing::TIMING;
 use cells::timing::set_source;
 use lists::fill_u8;
 use lists::fill_u32;
@@ -59,8 +61,8 @@ pub fn plan(sheet: &[u8], cells: &mut [u64], decisions: &mut [u8], delays: &mut 
         r ⌝ }
 {
     let lengths = check_buffers(cells.len(), decisions.len(), delays.len());
-    let mut timing = [0u32; 192];
-    let mut sums = [0u32; 4096];
+    let mut timing = [0u32; TIMING];
+    let mut sums = [0u32; SUMS];
     let checked = prepare(lengths, sheet, &mut timing, &mut sums);
     match checked {
         Reading::Refused(refusal) => refuse(refusal, decisions, delays),
@@ -83,7 +85,7 @@ fn put_delay(sheet: &mut [u8], train: Train, delay: u32)
 // Sheet and times take the train's new source delay.
 fn replace_delay(sheet: &mut [u8], timing: &mut [u32], train: Train, delay: u32)
     requires { ⌜ DelayRoom (now sheet) (train .0) delay × (train .0 ≤ 64)
-        × (length (now timing) ≡ 192) ⌝ }
+        × (length (now timing) ≡ timingCount) ⌝ }
     ensures { λ _. ⌜ DelayReplaced (now (sheet .entry)) (train .0) delay (now (sheet .exit))
         × (now (timing .exit) ≡ set (now (timing .entry)) (placeOfSource (train .0)) delay) ⌝ }
 {
@@ -110,8 +112,8 @@ pub fn report(
         r ⌝ }
 {
     let lengths = check_buffers(cells.len(), decisions.len(), delays.len());
-    let mut timing = [0u32; 192];
-    let mut sums = [0u32; 4096];
+    let mut timing = [0u32; TIMING];
+    let mut sums = [0u32; SUMS];
     let checked = check_report(lengths, sheet, train, delay, cells, &mut timing, &mut sums);
     match checked {
         Reading::Refused(refusal) => refuse(refusal, decisions, delays),

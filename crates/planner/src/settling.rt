@@ -4,6 +4,7 @@ ghost use Rattle.cells.specs.Book.{bookIn, BookGiven};
 ghost use Rattle.planner.specs.Buffers.{buffers};
 ghost use Rattle.planner.specs.Settled.{Settled};
 ghost use Rattle.planner.specs.Workable.{Workable};
+use cells::costs::COSTS;
 use cells::place::cell_at;
 use cells::sums::boarders;
 use rows::work_rows;
@@ -30,7 +31,7 @@ pub fn settle(
 {
     let mut boarding = [0u64; 64];
     boarders(&mut boarding, sums, m);
-    let mut costs = [0u64; 192];
+    let mut costs = [0u64; COSTS];
     work_rows(cells, &mut costs, m, last, timing, sums, &boarding);
     follow(
         decisions,

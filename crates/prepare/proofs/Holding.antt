@@ -12,8 +12,9 @@ use Rattle.line.proofs.Sums.{sum-over, over-same}
 use Rattle.sheet.specs.Numbers.{Times, Numbers}
 use Rattle.sheet.specs.Accepted.{SameNumbers, withDelay}
 use Rattle.sheet.specs.Pairs.{passengersOfPair}
-use Rattle.cells.specs.Timing.{placeOfSlack, placeOfSource, placeOfPeriod}
+use Rattle.cells.specs.Timing.{timingCount, placeOfSlack, placeOfSource, placeOfPeriod}
 use Rattle.cells.proofs.Times.{slack-set, slack-stands, source-set, source-stands, period-set, period-stands}
+use Rattle.cells.specs.Sums.{sumsCount}
 use Rattle.prepare.specs.Prepared.{HoldsTimes, HoldsSums, TimingOf, SumsOf}
 use Rattle.prepare.proofs.Lines.{passengers-same}
 
@@ -34,7 +35,7 @@ pub sums-fewer : {k m : ℕ} {n : ℕ → ℕ → ℕ} {sums : List ℕ} → Hol
 sums-fewer H few = record { long = H .long; leaving = λ i l a b c. H .leaving i l a b (omega arith) }
 
 -- of no train nothing is asked but room
-pub times-none : (T : ℕ) (x : Times) (timing : List ℕ) → length timing ≡ 192 → HoldsTimes 0 T x timing
+pub times-none : (T : ℕ) (x : Times) (timing : List ℕ) → length timing ≡ timingCount → HoldsTimes 0 T x timing
 times-none T x timing long =
     record {
       long = long;
@@ -44,7 +45,7 @@ times-none T x timing long =
     }
 
 -- nor of its sums
-pub sums-none : (n : ℕ → ℕ → ℕ) (sums : List ℕ) → length sums ≡ 4096 → HoldsSums 0 n sums
+pub sums-none : (n : ℕ → ℕ → ℕ) (sums : List ℕ) → length sums ≡ sumsCount → HoldsSums 0 n sums
 sums-none n sums long = record { long = long; leaving = λ k l a b c. absurd (omega arith) }
 
 -- slack, source delay and period of train i are stored, and those of the trains before it were there

@@ -4,32 +4,32 @@
 --   HoldsTimes m T x timing   the list holds the times x of m trains, as slack and source delay, and the period T
 --   HoldsSums m n sums        the list holds the sums of those who leave trains 1 to m, n being the passengers by pair
 --   TimingOf N timing, SumsOf N sums     so it is with the numbers N
---   Prepared s timing sums timing′ sums′ r   what preparing the sheet s answers, and leaves of the two lent lists
+--   Prepared checks s timing sums r      what is answered for the sheet s after these checks, and stands in the lists
 -- Assumes nothing.
 use Prim.Native.Nat.{ℕ, _+_, _-_, _≤_}
 use mathlib.Core.Path.{_≡_}
 use mathlib.Core.List.{List}
 use lib.ListN.{length}
-use Rattle.line.specs.Sum.{sum_from_to_}
 use Rattle.terms.specs.declared.Verdict.{Verdict}
 use Rattle.terms.specs.declared.Verdict.the-variants.{Fine}
+use Rattle.line.specs.Sum.{sum_from_to_}
 use Rattle.sheet.specs.Format.{trainsOf, periodOf}
 use Rattle.sheet.specs.Numbers.{Times, Numbers, numbersOf}
 use Rattle.sheet.specs.Pairs.{passengersOfPair}
 use Rattle.reader.specs.declared.Reading.{Reading}
 use Rattle.reader.specs.Reading.{readingOf}
-use Rattle.cells.specs.Timing.{slackIn, sourceIn, periodIn}
-use Rattle.cells.specs.Sums.{leavingIn}
+use Rattle.cells.specs.Timing.{timingCount, slackIn, sourceIn, periodIn}
+use Rattle.cells.specs.Sums.{sumsCount, leavingIn}
 
 pub record HoldsTimes (m T : ℕ) (x : Times) (timing : List ℕ) : Type 0 where
-  pub long : length timing ≡ 192
+  pub long : length timing ≡ timingCount
   -- the departure of train i, less the departure of train i - 1, less the driving time of train i - 1
   pub slack : (i : ℕ) → 2 ≤ i → i ≤ m → slackIn timing i ≡ x .departure i - x .departure (i - 1) - x .driving (i - 1)
   pub source : (i : ℕ) → 1 ≤ i → i ≤ m → sourceIn timing i ≡ x .delay i
   pub period : (s : ℕ) → 1 ≤ s → s ≤ m → periodIn timing s ≡ T
 
 pub record HoldsSums (m : ℕ) (n : ℕ → ℕ → ℕ) (sums : List ℕ) : Type 0 where
-  pub long : length sums ≡ 4096
+  pub long : length sums ≡ sumsCount
   -- those who board at k to l and leave at l + 1
   pub leaving : (k l : ℕ) → 1 ≤ k → k ≤ l → l ≤ m → leavingIn sums k l ≡ sum (λ i. n i (l + 1)) from k to l
 

@@ -7,6 +7,8 @@ ghost use mathlib.Core.Path.{_≡_};
 ghost use lib.ListN.{length};
 ghost use Rattle.terms.specs.Verdict.{_andThen_};
 ghost use Rattle.sheet.specs.Checks.{sheetVerdict};
+ghost use Rattle.cells.specs.Sums.{sumsCount};
+ghost use Rattle.cells.specs.Timing.{timingCount};
 ghost use Rattle.prepare.specs.Prepared.{Prepared};
 use crate::sums::sum_columns;
 use crate::times::fill_timing;
@@ -16,7 +18,7 @@ use terms::Verdict;
 
 // Takes the sheet apart and, if it is accepted, fills the list of times and that of sums.
 fn prepare_sheet(sheet: &[u8], timing: &mut [u32], sums: &mut [u32]) -> Reading
-    requires { ⌜ (length (now timing) ≡ 192) × (length (now sums) ≡ 4096) ⌝ }
+    requires { ⌜ (length (now timing) ≡ timingCount) × (length (now sums) ≡ sumsCount) ⌝ }
     ensures { λ r. ⌜ Prepared (sheetVerdict (now (sheet .entry))) (now (sheet .entry))
         (now (timing .exit)) (now (sums .exit)) r ⌝ }
 {
@@ -40,7 +42,7 @@ fn prepare_sheet(sheet: &[u8], timing: &mut [u32], sums: &mut [u32]) -> Reading
 
 // The same, unless an earlier check refused.
 pub fn prepare(earlier: Verdict, sheet: &[u8], timing: &mut [u32], sums: &mut [u32]) -> Reading
-    requires { ⌜ (length (now timing) ≡ 192) × (length (now sums) ≡ 4096) ⌝ }
+    requires { ⌜ (length (now timing) ≡ timingCount) × (length (now sums) ≡ sumsCount) ⌝ }
     ensures { λ r. ⌜ Prepared (earlier andThen sheetVerdict (now (sheet .entry)))
         (now (sheet .entry)) (now (timing .exit)) (now (sums .exit)) r ⌝ }
 {

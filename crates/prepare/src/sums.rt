@@ -4,6 +4,7 @@ ghost use Prim.Native.Nat.{_-_, _≤_};
 ghost use lib.ListN.{length};
 ghost use Rattle.sheet.specs.Pairs.{IsPair};
 ghost use Rattle.prepare.specs.Prepared.{HoldsSums};
+ghost use Rattle.cells.specs.Sums.{sumsCount};
 ghost use Rattle.prepare.specs.Preparing.{pairIn, FieldsGiven};
 use cells::sums::place_of_sum;
 use sheet::format::field_of_pair;
@@ -41,7 +42,7 @@ fn sum_column(sums: &mut [u32], passengers: &[u32], m: u32, train: Train)
 
 // The sums of all trains.
 pub fn sum_columns(sums: &mut [u32], passengers: &[u32], m: u32)
-    requires { ⌜ FieldsGiven m (now passengers) × (length (now sums) ≡ 4096) ⌝ }
+    requires { ⌜ FieldsGiven m (now passengers) × (length (now sums) ≡ sumsCount) ⌝ }
     ensures { λ _. ⌜ HoldsSums m (pairIn m (now (passengers .entry))) (now (sums .exit)) ⌝ }
 {
     let mut i = 1;

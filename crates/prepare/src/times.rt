@@ -5,6 +5,7 @@ ghost use lib.ListN.{length};
 ghost use Rattle.lists.specs.Run.{nth};
 ghost use Rattle.sheet.specs.Numbers.{timesIn};
 ghost use Rattle.prepare.specs.Prepared.{HoldsTimes};
+ghost use Rattle.cells.specs.Timing.{timingCount};
 ghost use Rattle.prepare.specs.Preparing.{SlackGiven, TrainGiven};
 use cells::timing::set_period;
 use cells::timing::set_slack;
@@ -59,7 +60,7 @@ pub fn fill_timing(
     driving: &[u32],
     delays: &[u32],
 )
-    requires { ⌜ (length (now timing) ≡ 192)
+    requires { ⌜ (length (now timing) ≡ timingCount)
         × ((i : ℕ) → 1 ≤ i → i ≤ m → TrainGiven i (now departures) (now driving) (now delays)) ⌝ }
     ensures { λ _. ⌜ HoldsTimes m period
         (timesIn (now (departures .entry)) (now (driving .entry)) (now (delays .entry)))

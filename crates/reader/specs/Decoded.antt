@@ -9,8 +9,8 @@ use Prim.Native.Nat.{ℕ, _+_, _*_, _≤_, _<_}
 use mathlib.Core.Path.{_≡_}
 use mathlib.Core.List.{List}
 use lib.ListN.{length}
-use Rattle.bits.specs.Field.{Within}
 use Rattle.lists.specs.Filled.{Filled}
+use Rattle.bits.specs.Field.{Within}
 use Rattle.terms.specs.declared.Refusal.{Refusal}
 use Rattle.terms.specs.declared.Verdict.the-variants.{Fine, Refused}
 use Rattle.sheet.specs.declared.format.Column.{Column}

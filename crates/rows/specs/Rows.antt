@@ -16,7 +16,7 @@ use Rattle.line.specs.Ranges.{limit}
 use Rattle.cells.specs.Place.{cellCount, tableOf, InRow}
 use Rattle.cells.specs.Sums.{Boarders}
 use Rattle.cells.specs.Book.{BookGiven}
-use Rattle.cells.specs.Costs.{excessIn, keepIn, goIn}
+use Rattle.cells.specs.Costs.{costsCount, excessIn, keepIn, goIn}
 
 -- by station l, cell (l, l), for the rows after t; up to t as it was
 pub record Diagonal (m t : ℕ) (cells before after : List ℕ) : Type 0 where
@@ -32,7 +32,7 @@ ceiling = 64 * limit
 pub record RowRoom (k n : ℕ) (costs diagonal : List ℕ) : Type 0 where
   pub first : 1 ≤ k
   pub last : k + n ≤ 65
-  pub long-costs : length costs ≡ 192
+  pub long-costs : length costs ≡ costsCount
   pub long-diagonal : length diagonal ≡ 64
   pub small : (l : ℕ) → k ≤ l → l < k + n
       → (keepIn costs l ≤ limit) × (goIn costs l ≤ limit) × (nth diagonal l ≤ ceiling)
@@ -53,7 +53,7 @@ pub record RowGiven (m k : ℕ) (cells costs timing sums boarding diagonal : Lis
   pub first : 1 ≤ k
   pub last : k ≤ m
   pub long : length cells ≡ cellCount
-  pub long-costs : length costs ≡ 192
+  pub long-costs : length costs ≡ costsCount
   pub long-diagonal : length diagonal ≡ 64
   pub most : (l : ℕ) → 1 ≤ l → l ≤ m → nth diagonal l ≤ ceiling
 
@@ -74,5 +74,5 @@ pub record RowsGiven (m t : ℕ) (cells costs timing sums boarding : List ℕ) :
   pub boarders : Boarders m sums boarding
   pub last : t ≤ m
   pub long : length cells ≡ cellCount
-  pub long-costs : length costs ≡ 192
+  pub long-costs : length costs ≡ costsCount
   pub later : (l : ℕ) → t < l → l ≤ m → tableOf m cells l l ≤ limit

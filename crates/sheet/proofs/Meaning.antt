@@ -12,12 +12,12 @@ use Rattle.lists.specs.Choice.{ifBelow}
 use Rattle.lists.proofs.Choice.{below-no}
 use Rattle.lists.proofs.Order.{lt-or-ge}
 use Rattle.lists.proofs.Run.{run-same}
-use Rattle.terms.specs.declared.Verdict.{Verdict}
-use Rattle.terms.specs.declared.Verdict.the-variants.{Fine}
-use Rattle.terms.specs.Verdict.{_andThen_, firstOf}
 use Rattle.bits.specs.Field.{fieldOf, Bytes}
 use Rattle.bits.proofs.Fields.{field-none, field-split}
 use Rattle.bits.proofs.Bytes.{bytes-same}
+use Rattle.terms.specs.declared.Verdict.{Verdict}
+use Rattle.terms.specs.declared.Verdict.the-variants.{Fine}
+use Rattle.terms.specs.Verdict.{_andThen_, firstOf}
 use Rattle.sheet.specs.Format.{trainsOf, entry, bitsOf, bytesOf, pairsOf, fillingOf}
 use Rattle.sheet.specs.Numbers.{Numbers, numbersOf}
 use Rattle.sheet.specs.Checks.{earliestOf, trainVerdict, passengersVerdict, numbersVerdict}

@@ -9,13 +9,13 @@ use Prim.Native.Nat.{ℕ, _+_, _-_, _*_, _≤_}
 use borrow.Author.Needs.{needs}
 use native.Mathlib.Omega.{arith}
 use lib.Dec.{eqb}
+use Rattle.bits.proofs.Fields.{field-lt}
 use Rattle.terms.specs.declared.Refusal.{Refusal}
 use Rattle.terms.specs.declared.Verdict.the-variants.{Refused}
 use Rattle.terms.specs.Refusal.{numberOf, blanksOf}
 use Rattle.terms.specs.Verdict.{numberIn}
 use Rattle.terms.proofs.Checks.{fine-or-refused}
 use Rattle.terms.proofs.Refusing.{Only, Each, only-of, only-then, only-first}
-use Rattle.bits.proofs.Fields.{field-lt}
 use Rattle.sheet.specs.Format.{drivingOf, entry}
 use Rattle.sheet.specs.Numbers.{timesOf}
 use Rattle.sheet.specs.Checks.{rangesVerdict, trainChecks, trainVerdict, passengersVerdict, numbersVerdict}

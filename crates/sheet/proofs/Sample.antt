@@ -6,10 +6,10 @@ use Prim.Native.Nat.{ℕ, _≤_}
 use native.Mathlib.Omega.{arith}
 use Rattle.lists.specs.Choice.{ifBelow}
 use Rattle.lists.specs.Run.{runOf}
-use Rattle.terms.specs.declared.Verdict.the-variants.{Fine}
-use Rattle.terms.specs.Verdict.{verdictOf, _andThen_, firstOf}
 use Rattle.bits.specs.Field.{bitAt, fieldOf}
 use Rattle.bits.proofs.Bytes.{bytes-tested}
+use Rattle.terms.specs.declared.Verdict.the-variants.{Fine}
+use Rattle.terms.specs.Verdict.{verdictOf, _andThen_, firstOf}
 use Rattle.sheet.specs.Format.{entry, bitsOf, bytesOf, pairsOf}
 use Rattle.sheet.specs.Numbers.{numbersOf}
 use Rattle.sheet.specs.Checks.{rangesVerdict, earliestOf, trainChecks, trainVerdict, passengersVerdict}

@@ -11,8 +11,8 @@ use Prim.Native.Nat.{ℕ, _+_, _-_, _*_, _≤_}
 use mathlib.Core.Path.{_≡_}
 use mathlib.Core.List.{List}
 use lib.ListN.{length}
-use Rattle.bits.specs.Field.{Bytes, Put}
 use Rattle.lists.specs.Choice.{ifSame}
+use Rattle.bits.specs.Field.{Bytes, Put}
 use Rattle.sheet.specs.Format.{trainsOf, delayColumn, bytesOf, pairsOf, fillingOf}
 use Rattle.sheet.specs.Numbers.{Times, Numbers, Lists, numbersOf}
 use Rattle.sheet.specs.Checks.{earliestOf}

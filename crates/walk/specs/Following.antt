@@ -15,7 +15,7 @@ use Rattle.cells.specs.Place.{cellCount}
 use Rattle.cells.specs.Sums.{Boarders}
 use Rattle.cells.specs.Book.{bookIn, BookGiven}
 use Rattle.cells.specs.Limits.{CellsInRange}
-use Rattle.cells.specs.Costs.{excessIn, keepIn, goIn, CostsAlong}
+use Rattle.cells.specs.Costs.{costsCount, excessIn, keepIn, goIn, CostsAlong}
 use Rattle.cells.specs.Shown.{byteOf}
 
 abbrev pub chosenBy : List ℕ → Table → ℕ → ℕ → Decision
@@ -27,7 +27,7 @@ pub record ChoiceGiven (m k l : ℕ) (costs cells : List ℕ) : Type 0 where
   pub first : 1 ≤ k
   pub run : k ≤ l
   pub last : l ≤ m
-  pub long-costs : length costs ≡ 192
+  pub long-costs : length costs ≡ costsCount
   pub keep-most : keepIn costs l ≤ limit
   pub go-most : goIn costs l ≤ limit
   pub long : length cells ≡ cellCount
@@ -56,6 +56,6 @@ pub record WalkGiven (m : ℕ) (decisions delays costs cells timing sums boardin
   pub boarders : Boarders m sums boarding
   pub long-decisions : length decisions ≡ 64
   pub long-delays : length delays ≡ 64
-  pub long-costs : length costs ≡ 192
+  pub long-costs : length costs ≡ costsCount
   pub long : length cells ≡ cellCount
   pub range : CellsInRange m cells

@@ -10,8 +10,8 @@ use mathlib.Core.Path.{_≡_}
 use mathlib.Core.List.{List}
 use mathlib.Core.Logic.{_⊎_}
 use lib.ListN.{length, getD}
-use Rattle.bits.specs.Field.{fieldOf, Apart, Within, Put}
 use Rattle.lists.specs.Run.{nth}
+use Rattle.bits.specs.Field.{fieldOf, Apart, Within, Put}
 use Rattle.sheet.specs.declared.format.Column.{Column}
 use Rattle.sheet.specs.Format.{trainsOf, periodOf, entry, departureOf, drivingOf, delayOf, bitsOf, bytesOf, pairsOf}
 use Rattle.sheet.specs.Numbers.{timesIn}

@@ -6,13 +6,14 @@ use Prim.Native.Nat.{_-_}
 use native.Mathlib.Omega.{arith}
 use lib.ListN.{length}
 use Rattle.cells.specs.Book.{bookIn}
+use Rattle.cells.specs.Costs.{costsCount}
 use Rattle.rows.proofs.Working.{WorkedTo, worked-start, worked-back, worked-end}
 use Rattle.rows.proofs.work_rows.Statement.{statement}
 use Rattle.rows.proofs.work_rows.Tie as tie
 
 abbrev Inv-loop : tie.InvT-loop
 Inv-loop cells₀ costs₀ m timing sums boarding diagonal₀ i₀ cells costs diagonal i =
-    WorkedTo (bookIn m timing sums) i₀ cells₀ cells diagonal i × (length costs ≡ 192)
+    WorkedTo (bookIn m timing sums) i₀ cells₀ cells diagonal i × (length costs ≡ costsCount)
 
 abbrev μ-loop : tie.MeasureT-loop
 μ-loop cells₀ costs₀ m timing sums boarding diagonal₀ i₀ cells costs diagonal i = i

@@ -3,8 +3,8 @@
 use borrow.Author.Needs.{needs}
 use mathlib.Core.Path.{sym, ap}
 use native.Mathlib.Omega.{arith}
-use Rattle.cells.specs.Shown.{byteOf}
 use Rattle.line.proofs.Choices.{prefer-of-go-less, prefer-of-keep-le}
+use Rattle.cells.specs.Shown.{byteOf}
 use Rattle.walk.proofs.prefer.Statement.{statement}
 use Rattle.walk.proofs.prefer.Tie as tie
 

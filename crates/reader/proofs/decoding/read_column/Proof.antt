@@ -4,9 +4,9 @@ use borrow.Author.Needs.{needs}
 use mathlib.Core.Path.{_≡_}
 use Prim.Native.Nat.{_≤_, _-_, _+_, _*_}
 use native.Mathlib.Omega.{arith}
-use Rattle.bits.specs.Field.{Within}
 use Rattle.lists.specs.Filled.{Filled}
 use Rattle.lists.proofs.Fill.{filled-none, filled-next}
+use Rattle.bits.specs.Field.{Within}
 use Rattle.sheet.specs.Format.{entry}
 use Rattle.reader.proofs.decoding.read_column.Statement.{statement}
 use Rattle.reader.proofs.decoding.read_column.Tie as tie
