@@ -26,17 +26,14 @@ use Rattle.demands.proofs.Printed.{pairRows, lines-same, leaves}
 
 -- ---- the sheets are accepted
 
-pub sheet-b-accepted : sheetVerdict sheetB ≡ Fine
+both-accepted : (sheetVerdict sheetB ≡ Fine) × (sheetVerdict sheetB13 ≡ Fine)
 unfolding sheetVerdict headVerdict rangesVerdict bodyVerdict numbersVerdict trainVerdict trainChecks earliestOf
     passengersVerdict fillingVerdict verdictOf _andThen_ firstOf runOf ifBelow bitAt fieldOf entry bitsOf bytesOf
     pairsOf
-sheet-b-accepted = refl
+both-accepted = (refl, refl)
 
-sheet-b13-accepted : sheetVerdict sheetB13 ≡ Fine
-unfolding sheetVerdict headVerdict rangesVerdict bodyVerdict numbersVerdict trainVerdict trainChecks earliestOf
-    passengersVerdict fillingVerdict verdictOf _andThen_ firstOf runOf ifBelow bitAt fieldOf entry bitsOf bytesOf
-    pairsOf
-sheet-b13-accepted = refl
+pub sheet-b-accepted : sheetVerdict sheetB ≡ Fine
+sheet-b-accepted = both-accepted .0
 
 -- ---- and have the lines of their cases
 
@@ -82,4 +79,4 @@ answers-b = leaves sheetB (lineB 10 delaysB) _ sheet-b-accepted line-of-sheet-b 
 
 pub answers-b13 : AnswersB13
 unfolding lineFrom
-answers-b13 = leaves sheetB13 (lineB 13 delaysB) _ sheet-b13-accepted line-of-sheet-b13 case-b6
+answers-b13 = leaves sheetB13 (lineB 13 delaysB) _ (both-accepted .1) line-of-sheet-b13 case-b6

@@ -6,6 +6,7 @@ use mathlib.Core.List.{List}
 use mathlib.Core.Logic.{inl, inr, ⊎-elim}
 use Prim.Native.Nat.{ℕ, _+_, _-_, _*_, _≤_, _<_}
 use native.Mathlib.Decide.{ℕ-discrete}
+use borrow.Author.Needs.{needs}
 use native.Mathlib.Omega.{arith}
 use lib.Dec.{lit≤}
 use Rattle.lists.specs.Choice.{ifSame}
@@ -66,17 +67,14 @@ module _ (s t : List ℕ) (i v : ℕ) (ok : AcceptedSheet s) (least : 1 ≤ i) (
         trains-most = r .trains-most;
         period-least = r .period-least;
         period-most = r .period-most;
+        -- only the delay differs
         train = λ j a b.
             let q = r .train j a b in
-            record {
-              departure = q .departure;
-              driving = q .driving;
-              delay = elim (ℕ-discrete j i) [
-                | yes e ↦ rw (same-yes v (numbersOf s .times .delay j) e) l
-                | no n ↦ rw (same-no v (numbersOf s .times .delay j) n) (q .delay)
-              ];
-              slack = q .slack;
-            };
+            let delay : withDelay (numbersOf s) i v .times .delay j ≤ 1440 = elim (ℕ-discrete j i) [
+              | yes e ↦ rw (same-yes v (numbersOf s .times .delay j) e) l
+              | no n ↦ rw (same-no v (numbersOf s .times .delay j) n) (q .delay)
+            ] in
+            search needs;
         passengers = r .passengers;
       }
 

@@ -10,7 +10,7 @@ use Rattle.terms.specs.declared.Refusal.{Refusal}
 use Rattle.terms.specs.declared.Verdict.the-variants.{Fine}
 use Rattle.terms.proofs.Checks.{then-fine, fine-then, passed-of-fine, fine-of-passed, first-fine, fine-first}
 use Rattle.sheet.specs.Format.{trainsOf, periodOf, bytesOf}
-use Rattle.sheet.specs.Numbers.{Times, Numbers, Lists, numbersOf}
+use Rattle.sheet.specs.Numbers.{Numbers, Lists, numbersOf}
 use Rattle.sheet.specs.Checks.{lengthsVerdict, rangesVerdict, trainChecks, trainVerdict, passengersVerdict}
 use Rattle.sheet.specs.Checks.{numbersVerdict}
 use Rattle.sheet.specs.Checks.{headVerdict, fillingVerdict, bodyVerdict, sheetVerdict}
@@ -43,13 +43,13 @@ pub fine-of-ranges : (m T : ℕ) → Ranges m T → rangesVerdict m T ≡ Fine
 unfolding rangesVerdict
 fine-of-ranges m T h = fine-of-passed _ (search needs)
 
-train-of-fine : (x : Times) (i : ℕ) → trainVerdict x i ≡ Fine → TrainInRange x i
+train-of-fine : (N : Numbers) (i : ℕ) → trainVerdict (N .times) i ≡ Fine → TrainInRange N i
 unfolding trainVerdict trainChecks
-train-of-fine x i e = let passed = passed-of-fine _ e in search needs
+train-of-fine N i e = let passed = passed-of-fine _ e in search needs
 
-fine-of-train : (x : Times) (i : ℕ) → TrainInRange x i → trainVerdict x i ≡ Fine
+fine-of-train : (N : Numbers) (i : ℕ) → TrainInRange N i → trainVerdict (N .times) i ≡ Fine
 unfolding trainVerdict trainChecks
-fine-of-train x i h = fine-of-passed _ (search needs)
+fine-of-train N i h = fine-of-passed _ (search needs)
 
 passengers-of-fine : (p : ℕ → ℕ) (f : ℕ) → passengersVerdict p f ≡ Fine → p f ≤ 10000
 unfolding passengersVerdict
@@ -70,7 +70,7 @@ module _ (N : Numbers) where
         trains-most = r .trains-most;
         period-least = r .period-least;
         period-most = r .period-most;
-        train = λ i a b. train-of-fine (N .times) i (first-fine _ 1 _ (both .0) i a (omega arith));
+        train = λ i a b. train-of-fine N i (first-fine _ 1 _ (both .0) i a (omega arith));
         passengers = λ f a b. passengers-of-fine (N .passengers) f (first-fine _ 1 _ (both .1) f a (omega arith));
       }
 
@@ -86,7 +86,7 @@ module _ (N : Numbers) where
   pub fine-of-in-range : InRange N → numbersVerdict (N .trains) (N .times) (N .passengers) ≡ Fine
   unfolding numbersVerdict
   fine-of-in-range h =
-      fine-then (fine-first _ 1 _ (λ i a b. fine-of-train (N .times) i (h .train i a (omega arith))))
+      fine-then (fine-first _ 1 _ (λ i a b. fine-of-train N i (h .train i a (omega arith))))
       (fine-first _ 1 _ (λ f a b. fine-of-passengers (N .passengers) f (h .passengers f a (omega arith))))
 
 -- ---- the sheet

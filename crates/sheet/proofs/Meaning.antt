@@ -22,6 +22,7 @@ use Rattle.sheet.specs.Format.{trainsOf, entry, bitsOf, bytesOf, pairsOf
 use Rattle.sheet.specs.Numbers.{Numbers, numbersOf}
 use Rattle.sheet.specs.Checks.{earliestOf, trainVerdict, passengersVerdict, numbersVerdict}
 use Rattle.sheet.specs.Accepted.{InRange, AcceptedSheet, SameNumbers, SheetOf}
+use Rattle.sheet.proofs.Facts.{Ranges, in-range-of-fine, ranges-of-in-range, fine-of-in-range}
 use Rattle.sheet.proofs.Lengths.{layout, bytes-bits}
 
 -- ---- numbers that are the same
@@ -91,26 +92,8 @@ verdict-same N M h =
 
 pub in-range-same : (N M : Numbers) → SameNumbers N M → InRange M → InRange N
 in-range-same N M h r =
-    let e = h .trains in
-    let t = h .period in
-    record {
-      trains-least = omega (arith, r .trains-least);
-      trains-most = omega (arith, r .trains-most);
-      period-least = omega (arith, r .period-least);
-      period-most = omega (arith, r .period-most);
-      train = λ i a b.
-          let c : i ≤ M .trains = omega arith in
-          let q = r .train i a c in
-          record {
-            departure = rw (h .departure i a c) (q .departure);
-            driving = rw (h .driving i a c) (q .driving);
-            delay = rw (h .delay i a c) (q .delay);
-            slack = rw (earliest-same N M h i a c, h .departure i a c) (q .slack);
-          };
-      passengers = λ f a b.
-          let c : f ≤ pairsOf (M .trains) = rw e at b in
-          rw (h .passengers f a c) (r .passengers f a c);
-    }
+    let ranges : Ranges (N .trains) (N .period) = rw (h .trains, h .period) (ranges-of-in-range M r) in
+    in-range-of-fine N ranges (verdict-same N M h ∙ fine-of-in-range M r)
 
 -- ---- two sheets that agree in every field
 

@@ -1,6 +1,6 @@
 -- Accepted sheets as plain facts. Document 01, the table of "The line and its numbers", and "The bit sheet".
 --   Lengths n k L        three lists of n numbers, one of k
---   TrainInRange x i     every number of train i lies in its range, and its slack is not under 0
+--   TrainInRange N i     every number of train i lies in its range, and its slack is not under 0
 --   InRange N            so it is with every train, and m, T and the passengers lie in their ranges
 --   AcceptedSheet s      the sheet s passes every check
 --   SameNumbers N M      the numbers N and M are equal at every train and every passenger field of the line
@@ -14,7 +14,7 @@ use lib.ListN.{length}
 use Rattle.lists.specs.Choice.{ifSame}
 use Rattle.bits.specs.Field.{Bytes, Put}
 use Rattle.sheet.specs.Format.{trainsOf, delayColumn, bytesOf, pairsOf, fillingOf}
-use Rattle.sheet.specs.Numbers.{Times, Numbers, Lists, numbersOf}
+use Rattle.sheet.specs.Numbers.{Numbers, Lists, numbersOf}
 use Rattle.sheet.specs.Checks.{earliestOf}
 
 pub record Lengths (n k : ℕ) (L : Lists) : Type 0 where
@@ -23,19 +23,19 @@ pub record Lengths (n k : ℕ) (L : Lists) : Type 0 where
   pub delays : length (L .delays) ≡ n
   pub passengers : length (L .passengers) ≡ k
 
-pub record TrainInRange (x : Times) (i : ℕ) : Type 0 where
-  pub departure : x .departure i ≤ 2879
-  pub driving : x .driving i ≤ 1023
-  pub delay : x .delay i ≤ 1440
+pub record TrainInRange (N : Numbers) (i : ℕ) : Type 0 where
+  pub departure : N .times .departure i ≤ 2879
+  pub driving : N .times .driving i ≤ 1023
+  pub delay : N .times .delay i ≤ 1440
   -- the slack is 0 or more
-  pub slack : earliestOf (x .departure) (x .driving) i ≤ x .departure i
+  pub slack : earliestOf (N .times .departure) (N .times .driving) i ≤ N .times .departure i
 
 pub record InRange (N : Numbers) : Type 0 where
   pub trains-least : 1 ≤ N .trains
   pub trains-most : N .trains ≤ 64
   pub period-least : 1 ≤ N .period
   pub period-most : N .period ≤ 1440
-  pub train : (i : ℕ) → 1 ≤ i → i ≤ N .trains → TrainInRange (N .times) i
+  pub train : (i : ℕ) → 1 ≤ i → i ≤ N .trains → TrainInRange N i
   pub passengers : (f : ℕ) → 1 ≤ f → f ≤ pairsOf (N .trains) → N .passengers f ≤ 10000
 
 pub record AcceptedSheet (s : List ℕ) : Type 0 where

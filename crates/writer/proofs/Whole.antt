@@ -36,13 +36,13 @@ module _ (s t : List ℕ) (m : ℕ) (d r y : List ℕ) (h : TimesRoom s m d r y)
 
   pub departures-room : PutRoom t departureColumn m d
   departures-room =
-      train-column d 18 12 (h .departures) (omega arith) (λ i a b. omega (arith, h .train i a b .departure))
+      train-column d 18 12 (h .departures) (omega arith) (λ i a b. omega (arith, h .departure i a b))
 
   pub driving-room : PutRoom t drivingColumn m r
-  driving-room = train-column r 30 10 (h .driving) (omega arith) (λ i a b. omega (arith, h .train i a b .driving))
+  driving-room = train-column r 30 10 (h .driving) (omega arith) (λ i a b. omega (arith, h .drive i a b))
 
   pub delays-room : PutRoom t delayColumn m y
-  delays-room = train-column y 40 11 (h .delays) (omega arith) (λ i a b. omega (arith, h .train i a b .delay))
+  delays-room = train-column y 40 11 (h .delays) (omega arith) (λ i a b. omega (arith, h .delay i a b))
 
 module _ (G : Given) (s t : List ℕ) (h : Writable G s) (same : length t ≡ length s) where
   pub head-room : HeadRoom t (G .trains) (G .period)

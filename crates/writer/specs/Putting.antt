@@ -14,8 +14,7 @@ use Rattle.lists.specs.Run.{nth}
 use Rattle.bits.specs.Field.{fieldOf, Apart, Within, Put}
 use Rattle.sheet.specs.declared.format.Column.{Column}
 use Rattle.sheet.specs.Format.{trainsOf, periodOf, entry, departureOf, drivingOf, delayOf, bitsOf, bytesOf, pairsOf}
-use Rattle.sheet.specs.Numbers.{timesIn}
-use Rattle.sheet.specs.Accepted.{Lengths, TrainInRange, InRange}
+use Rattle.sheet.specs.Accepted.{Lengths, InRange}
 use Rattle.writer.specs.Write.{Given, numbersGiven}
 
 -- the first n numbers of the list fit the column, and the column the sheet
@@ -44,14 +43,16 @@ pub record HeadPut (s : List ℕ) (m T : ℕ) (t : List ℕ) : Type 0 where
   pub trains : trainsOf t ≡ m
   pub period : periodOf t ≡ T
 
--- the times of trains 1 to m stand in the lists d, r and y, in range, and the sheet has room for them
+-- the times of trains 1 to m stand in the lists d, r and y, fit their fields, and the sheet has room for them
 pub record TimesRoom (s : List ℕ) (m : ℕ) (d r y : List ℕ) : Type 0 where
   pub room : 18 + 33 * m ≤ 8 * length s
   pub most : m ≤ 64
   pub departures : m ≤ length d
   pub driving : m ≤ length r
   pub delays : m ≤ length y
-  pub train : (i : ℕ) → 1 ≤ i → i ≤ m → TrainInRange (timesIn d r y) i
+  pub departure : (i : ℕ) → 1 ≤ i → i ≤ m → nth d i ≤ 2879
+  pub drive : (i : ℕ) → 1 ≤ i → i ≤ m → nth r i ≤ 1023
+  pub delay : (i : ℕ) → 1 ≤ i → i ≤ m → nth y i ≤ 1440
 
 -- t is s with those times; what lies before and behind them is as it was
 pub record TimesPut (s : List ℕ) (m : ℕ) (d r y t : List ℕ) : Type 0 where
