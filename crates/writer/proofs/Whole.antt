@@ -65,7 +65,9 @@ module _ (G : Given) (s t : List ℕ) (h : Writable G s) (same : length t ≡ le
         departures = omega (arith, h .lengths .departures);
         driving = omega (arith, h .lengths .driving);
         delays = omega (arith, h .lengths .delays);
-        train = h .range .train;
+        departure = λ i a b. h .range .train i a b .departure;
+        drive = λ i a b. h .range .train i a b .driving;
+        delay = λ i a b. h .range .train i a b .delay;
       }
 
   pub passengers-room : PutRoom t (passengerColumn (G .trains)) (length (G .lists .passengers)) (G .lists .passengers)
