@@ -1,4 +1,4 @@
-// Whether cells that were lent are within the limit, as a total can be.
+// Whether the cells in use of rows that a report does not work anew are within the limit.
 ghost use mathlib.Core.Path.{_≡_};
 ghost use Prim.Native.Nat.{_≤_};
 ghost use lib.ListN.{length};

@@ -4,7 +4,7 @@ ghost use mathlib.Core.Path.{_≡_};
 ghost use Prim.Native.Nat.{_≤_, _<_};
 ghost use lib.ListN.{length};
 ghost use Rattle.line.specs.Ranges.{everyone};
-ghost use Rattle.cells.specs.Sums.{placeOfSum, leavingIn, boardedIn, SumsGiven, Boarders};
+ghost use Rattle.cells.specs.Sums.{sumsCount, placeOfSum, leavingIn, boardedIn, SumsGiven, Boarders};
 use crate::timing::wide;
 use terms::Station;
 use terms::Train;
@@ -16,7 +16,7 @@ pub const SUMS: usize = 4096;
 // knows.
 pub fn place_of_sum(from: Station, train: Train) -> usize
     requires { ⌜ (1 ≤ from .0) × (from .0 ≤ 64) × (1 ≤ train .0) × (train .0 ≤ 64) ⌝ }
-    ensures { λ r. ⌜ (r ≡ placeOfSum (from .0) (train .0)) × (r < 4096) ⌝ }
+    ensures { λ r. ⌜ (r ≡ placeOfSum (from .0) (train .0)) × (r < sumsCount) ⌝ }
 {
     64 * from.index() + train.index()
 }

@@ -1,5 +1,5 @@
 // The times of a line, as one list: the slack by station, the source delay by train, the period by
-// station. No other file knows where they stand.
+// station. In code no other file knows where they stand.
 ghost use mathlib.Core.Path.{_≡_};
 ghost use Prim.Native.Nat.{_+_, _-_, _*_, _≤_, _<_};
 ghost use lib.ListN.{length, getD, set};
@@ -64,7 +64,7 @@ pub fn set_slack(timing: &mut [u32], station: Station, minutes: u32)
     timing[station.index()] = minutes;
 }
 
-// The source delay of a train does.
+// The source delay of a train becomes so many minutes.
 pub fn set_source(timing: &mut [u32], train: Train, minutes: u32)
     requires { ⌜ (1 ≤ train .0) × (train .0 ≤ 64) × (length (now timing) ≡ timingCount) ⌝ }
     ensures { λ _. ⌜ now (timing .exit) ≡
@@ -73,7 +73,7 @@ pub fn set_source(timing: &mut [u32], train: Train, minutes: u32)
     timing[SOURCES + train.index()] = minutes;
 }
 
-// The period at a station does.
+// The period at a station becomes so many minutes.
 pub fn set_period(timing: &mut [u32], station: Station, minutes: u32)
     requires { ⌜ (1 ≤ station .0) × (station .0 ≤ 64) × (length (now timing) ≡ timingCount) ⌝ }
     ensures { λ _. ⌜ now (timing .exit) ≡

@@ -184,7 +184,7 @@ planned-left L before after n range right plan =
         delays = ap length (plan .delays) ∙ padded-length 64 _ _;
       };
       others = plan .cells .others;
-      most = le-trans (le-of-eq (plan .answer)) (total-le L range (plan .policy));
+      most = le-trans (le-of-eq (plan .costs)) (total-le L range (plan .policy));
     }
 
 pub plan-answered : (s : List ℕ) (before after : Buffers) (a : Answer) → Plan s before after a

@@ -77,7 +77,7 @@ module _ (L : Line) (before after : Buffers) (n : ℕ) (few : L .trains ≤ 64) 
   least-plan : LeastPlan L after n
   least-plan =
       record {
-        told = plan .answer ∙ same-total L L (plan .policy) shows (lines-alike-refl 1 L) agrees;
+        told = plan .costs ∙ same-total L L (plan .policy) shows (lines-alike-refl 1 L) agrees;
         least = shows-plan .least;
         earliest = shows-plan .tie;
         decisions = plan .decisions ∙ shown-same (L .trains) (plan .policy) shows agrees;

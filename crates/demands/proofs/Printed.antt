@@ -144,6 +144,6 @@ module _ (s : List ℕ) (M : Line) (x : CaseAnswer) (fine : sheetVerdict s ≡ F
       record {
         answer =
             h .answer ∙ ap (λ (v : Verdict). answerOf v (answerCarries a)) passed
-            ∙ ap Accepted (plan .answer ∙ total-is);
+            ∙ ap Accepted (plan .costs ∙ total-is);
         held = record { decisions = decisions-are; delays = delays-are; cells = cells-are };
       }

@@ -1,5 +1,7 @@
 -- All promises of plan and report are kept.
 -- Assumes nothing.
+use Rattle.writer.proofs.Outcome.{write-tells}
+use Rattle.reader.proofs.Stored.{read-tells}
 use Rattle.demands.specs.Promises.{Promises}
 use Rattle.demands.proofs.Demands.{demand-1, demand-2, one-meaning}
 use Rattle.demands.proofs.Runs.{demand-3}
@@ -16,6 +18,8 @@ promises =
       second-demand = demand-2;
       one-meaning = one-meaning;
       third-demand = demand-3;
+      read-tells = λ s before after a. read-tells;
+      write-tells = λ G before after a. write-tells;
       sheet-a = answers-a;
       sheet-b = answers-b;
       sheet-b13 = answers-b13;

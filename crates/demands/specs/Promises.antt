@@ -1,7 +1,14 @@
--- All that is promised of plan and report, in one record: the three demands, and document 01, "What the contracts have
--- to say".
+-- All that is promised of plan and report, and what read and write answer, in one record: the three demands, and
+-- document 01, "What the contracts have to say" and its last paragraph.
 --   Promises   that record
 -- Assumes nothing.
+use Prim.Native.Nat.{ℕ}
+use mathlib.Core.List.{List}
+use Rattle.terms.specs.declared.Answer.{Answer}
+use Rattle.sheet.specs.Numbers.{Lists}
+use Rattle.writer.specs.Write.{Given, Write, WriteTells}
+use Rattle.reader.specs.declared.Reading.{Reading}
+use Rattle.reader.specs.Read.{Read, ReadTells}
 use Rattle.demands.specs.Calling.{operations}
 use Rattle.demands.specs.Answered.{Demand1}
 use Rattle.demands.specs.Least.{Demand2}
@@ -16,6 +23,9 @@ pub record Promises : Type 0 where
   pub second-demand : Demand2 operations
   pub one-meaning : OneMeaning
   pub third-demand : Demand3 operations
+  -- of read and write the answer in the paper's numbers; of plan and report the first demand has it
+  pub read-tells : (s : List ℕ) (before after : Lists) (a : Reading) → Read s before after a → ReadTells s before a
+  pub write-tells : (G : Given) (before after : List ℕ) (a : Answer) → Write G before after a → WriteTells G before a
   -- cases a, b4, b6, b7 and b8
   pub sheet-a : AnswersA
   pub sheet-b : AnswersB

@@ -12,8 +12,8 @@ use Rattle.terms.specs.Verdict.{numberIn, placeIn}
 use Rattle.terms.specs.Answer.{answerNumber, answerCarries}
 use Rattle.terms.proofs.Checks.{fine-or-refused, if-fine, if-refused}
 use Rattle.line.specs.Line.{lineFrom}
-use Rattle.writer.proofs.Outcome.{write-one, write-number, write-place, write-length}
-use Rattle.reader.proofs.Stored.{read-one, read-number, read-place, read-trains, read-period}
+use Rattle.writer.proofs.Outcome.{write-one, write-tells}
+use Rattle.reader.proofs.Stored.{read-one, read-tells}
 use Rattle.prepare.specs.LineOf.{lineOf}
 use Rattle.planner.specs.Buffers.{Buffers}
 use Rattle.planner.specs.Outcome.{Outcome}
@@ -93,9 +93,12 @@ call-promises =
       one-write = λ G before list. call-one (write-one G before);
       read-returns = λ s before list after stored r.
           call-returns _ _ (λ a g.
-          (read-number g, λ k. read-number g k ∷ read-place g k ∷ read-trains g k ∷ read-period g k ∷ []));
+          let told = read-tells g in
+          (told .number, λ k. told .number k ∷ told .place k ∷ told .trains k ∷ told .period k ∷ []));
       write-returns = λ G before list after stored r.
-          call-returns _ _ (λ a g. (write-number g, λ k. write-number g k ∷ write-place g k ∷ write-length g k ∷ []));
+          call-returns _ _ (λ a g.
+          let told = write-tells g in
+          (told .number, λ k. told .number k ∷ told .place k ∷ told .long k ∷ []));
       plan-returns = λ s before list after stored r.
           call-returns _ _ (λ a g. outcome-tells _ _ _ _ a _ g (plan-brings s before after a g));
       report-returns = λ i v before list after stored r.

@@ -4,7 +4,7 @@
 use Prim.Native.Nat.{ℕ}
 use mathlib.Core.Path.{_≡_, refl, sym, subst, _∙_}
 use mathlib.Core.Logic.{inl, inr}
-use mathlib.Core.List.{List, _∷_, []}
+use mathlib.Core.List.{List}
 use lib.ListN.{length}
 use Rattle.lists.proofs.Order.{same-or-not}
 use Rattle.bits.specs.Field.{Bytes}
@@ -21,8 +21,8 @@ use Rattle.planner.specs.Plan.{Plan}
 use Rattle.planner.proofs.Outcome.{plan-outcome-one, report-outcome-one}
 use Rattle.demands.specs.Calling.{Right}
 use Rattle.demands.specs.Answered.{PlanPossible, ReportPossible, Demand1}
-use Rattle.demands.specs.Least.{LeastPlan, Demand2}
-use Rattle.demands.specs.Runs.{planned, Begun, Demand3}
+use Rattle.demands.specs.Least.{LeastPlan}
+use Rattle.demands.specs.Runs.{planned, Begun}
 use Rattle.demands.proofs.Demands.{demand-1, demand-2}
 use Rattle.oblachura.specs.AnswerNumbers.{answerNumbers}
 use Rattle.oblachura.specs.Calls.{PlanCall, lent, ReportCall}

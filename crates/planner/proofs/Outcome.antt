@@ -1,7 +1,7 @@
 -- What a call answers, refused and accepted; and that the promises leave nothing open: plans agree on the trains in
 -- use, and nothing else of them is shown; a report's sheet and cells are determined, and the rest is read off them.
 -- Assumes nothing.
-use mathlib.Core.Path.{_≡_, refl, ap, sym, subst, _∙_}
+use mathlib.Core.Path.{_≡_, ap, sym, subst, _∙_}
 use mathlib.Core.Bool.{false, true≢false}
 use mathlib.Core.List.{List}
 use mathlib.Core.Logic.{_⊎_, inl, inr}
@@ -86,7 +86,7 @@ settled-planned L t before after n all settled =
     record {
       policy = decide (bookOf L) (tableOf (L .trains) (after .cells));
       plan = decided-is-plan L _ _ worked;
-      answer = S .total ∙ sym (decided-total L _ _ worked);
+      costs = S .total ∙ sym (decided-total L _ _ worked);
       decisions = S .walked .decisions;
       delays = S .walked .delays;
       cells = S .cells;
@@ -129,7 +129,7 @@ planned-same L before after before′ after′ n n′ P Q =
     let same = plan-one L (P .policy) (Q .policy) (P .plan) (Q .plan) in
     let lines = lines-alike-refl 1 L in
     let days = same-days L L (P .policy) (Q .policy) lines same in (
-      P .answer ∙ same-total L L (P .policy) (Q .policy) lines same ∙ sym (Q .answer),
+      P .costs ∙ same-total L L (P .policy) (Q .policy) lines same ∙ sym (Q .costs),
       P .decisions ∙ shown-same (L .trains) (P .policy) (Q .policy) same ∙ sym (Q .decisions),
       P .delays ∙ padded-same 64 (L .trains) _ _ (days .arrival) ∙ sym (Q .delays),
     )

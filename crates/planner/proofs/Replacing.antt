@@ -1,7 +1,7 @@
 -- A source delay replaced: an accepted sheet has room for it, and the list of times with the new delay is that of the
 -- sheet as it then stands, so that what is settled on it is settled for that sheet's line.
 -- Assumes nothing.
-use mathlib.Core.Path.{_≡_, sym, _∙_}
+use mathlib.Core.Path.{_≡_, _∙_}
 use mathlib.Core.List.{List}
 use Prim.Native.Nat.{ℕ, _+_, _-_, _*_, _≤_}
 use native.Mathlib.Omega.{arith}

@@ -3,7 +3,7 @@
 --   Buffers                    the working cells, the decision bytes and the delays, as they are lent or left
 --   buffers c d y              these three lists as one
 --   RightLengths b             they have the lengths that document 01 states
---   buffersVerdict b           refused, with 10, where they have not
+--   buffersVerdict b           refused, with 10, where they have not; bufferLengthsVerdict by their lengths
 --   Blanked before after       the decisions and the delays are blank, the cells as they were
 --   RefusedFor r before after  what the refusal r leaves
 -- Assumes nothing.

@@ -31,7 +31,7 @@ planVerdict s b = buffersVerdict b andThen sheetVerdict s
 pub record Planned (L : Line) (before after : Buffers) (n : ℕ) : Type 0 where
   pub policy : Policy
   pub plan : IsPlan L policy
-  pub answer : n ≡ total L policy
+  pub costs : n ≡ total L policy
   pub decisions : after .decisions ≡ shown (L .trains) policy
   pub delays : after .delays ≡ padded 64 (L .trains) (arrival (L .running) policy)
   pub cells : RowsWorked (bookOf L) (L .trains) (before .cells) (after .cells)

@@ -1,5 +1,5 @@
 // The checks of plan and of report, in their order. Sheet and cells are lent to be read, so that
-// nothing is written before the last check.
+// neither is written before the last check.
 ghost use mathlib.Core.Path.{_≡_};
 ghost use Prim.Native.Nat.{_≤_};
 ghost use lib.ListN.{length};
@@ -39,7 +39,7 @@ pub fn check_buffers(cells: usize, decisions: usize, delays: usize) -> Verdict
 }
 
 // The train and its new delay.
-fn check_numbers(m: u32, train: Train, delay: u32) -> Verdict
+fn check_reported(m: u32, train: Train, delay: u32) -> Verdict
     ensures { λ r. ⌜ r ≡ verdictOf (reportChecks m (train .0) delay) ⌝ }
 {
     if train.0 < 1 {
@@ -59,7 +59,7 @@ fn check_own(m: u32, train: Train, delay: u32, cells: &[u64]) -> Verdict
     requires { ⌜ (m ≤ 64) × (length (now cells) ≡ cellCount) ⌝ }
     ensures { λ r. ⌜ r ≡ ownVerdict m (train .0) delay (now (cells .entry)) ⌝ }
 {
-    let numbers = check_numbers(m, train, delay);
+    let numbers = check_reported(m, train, delay);
     if let Verdict::Refused(_) = numbers {
         return numbers;
     }

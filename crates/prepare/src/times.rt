@@ -13,7 +13,7 @@ use cells::timing::set_source;
 use terms::Train;
 
 // The slack at the station that a train leaves: its departure less that of its feeder less the
-// feeder's driving time. Train 1 has no feeder: 0, which nothing reads.
+// feeder's driving time. Train 1 has no feeder; its 0 swallows no delay.
 fn slack(train: Train, departures: &[u32], driving: &[u32]) -> u32
     requires { ⌜ SlackGiven (train .0) (now departures) (now driving) ⌝ }
     ensures { λ r. ⌜ (2 ≤ train .0 → r ≡ nth (now (departures .entry)) (train .0)

@@ -8,7 +8,6 @@ use Rattle.lists.proofs.Fill.{filled-padded}
 use Rattle.terms.specs.declared.Refusal.{Refusal}
 use Rattle.terms.specs.declared.Verdict.{Verdict}
 use Rattle.terms.specs.declared.Verdict.the-variants.{Refused}
-use Rattle.terms.specs.Verdict.{ifFine, numberIn, placeIn}
 use Rattle.terms.proofs.Checks.{if-fine, if-refused, then-pass}
 use Rattle.sheet.specs.Format.{trainsOf, periodOf}
 use Rattle.sheet.specs.Numbers.{Lists, lists}
@@ -19,7 +18,7 @@ use Rattle.reader.specs.declared.Reading.{Reading}
 use Rattle.reader.specs.declared.Reading.the-variants.{Accepted, Refused as ReadRefused}
 use Rattle.reader.specs.Reading.{readNumber, readPlace, readTrains, readPeriod, readingOf}
 use Rattle.reader.specs.Decoded.{Decoded}
-use Rattle.reader.specs.Read.{readVerdict, Read}
+use Rattle.reader.specs.Read.{readVerdict, Read, ReadTells}
 use Rattle.reader.proofs.ReadingOf.{reading-refused, accepted-fine, refused-verdict, reading-carries}
 use Rattle.reader.proofs.Decoded.{decoded-columns}
 
@@ -71,22 +70,15 @@ module _ (s : List ℕ) (before : Lists) (room : Lengths 64 2080 before) where
 
 -- ---- what its promise fixes
 
-module _ {s : List ℕ} {before after : Lists} {a : Reading} (h : Read s before after a) where
-  -- the number is that of the first check that refuses
-  pub read-number : readNumber a ≡ numberIn (readVerdict s before)
-  read-number = ap readNumber (h .answer) ∙ reading-carries (readVerdict s before) (trainsOf s) (periodOf s) .0
-
-  -- and so is the place
-  pub read-place : readPlace a ≡ placeIn (readVerdict s before)
-  read-place = ap readPlace (h .answer) ∙ reading-carries (readVerdict s before) (trainsOf s) (periodOf s) .1
-
-  -- m, or 0 where refused
-  pub read-trains : readTrains a ≡ ifFine (readVerdict s before) (trainsOf s) 0
-  read-trains = ap readTrains (h .answer) ∙ reading-carries (readVerdict s before) (trainsOf s) (periodOf s) .2
-
-  -- T, or 0 where refused
-  pub read-period : readPeriod a ≡ ifFine (readVerdict s before) (periodOf s) 0
-  read-period = ap readPeriod (h .answer) ∙ reading-carries (readVerdict s before) (trainsOf s) (periodOf s) .3
+pub read-tells : {s : List ℕ} {before after : Lists} {a : Reading} → Read s before after a → ReadTells s before a
+read-tells {s} {before} h =
+    let carries = reading-carries (readVerdict s before) (trainsOf s) (periodOf s) in
+    record {
+      number = ap readNumber (h .answer) ∙ carries .0;
+      place = ap readPlace (h .answer) ∙ carries .1;
+      trains = ap readTrains (h .answer) ∙ carries .2;
+      period = ap readPeriod (h .answer) ∙ carries .3;
+    }
 
 -- two outcomes that keep read's promise are equal
 pub read-one : (s : List ℕ) (before after after′ : Lists) (a a′ : Reading) → Read s before after a

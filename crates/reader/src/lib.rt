@@ -15,7 +15,7 @@ use terms::ListFault;
 use terms::Refusal;
 use terms::Verdict;
 
-// What read answers: m and T, or why not.
+// What read answers, and what a sheet that is decoded or prepared answers: m and T, or why not.
 pub enum Reading {
     Accepted(u32, u32),
     Refused(Refusal),

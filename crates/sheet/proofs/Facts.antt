@@ -1,6 +1,6 @@
 -- A verdict that is fine, in plain facts: the chain of checks and `Accepted` say the same.
 -- Assumes nothing.
-use mathlib.Core.Path.{_≡_, refl}
+use mathlib.Core.Path.{_≡_}
 use mathlib.Core.List.{List}
 use Prim.Native.Nat.{ℕ, _≤_, zero-le}
 use borrow.Author.Needs.{needs}

@@ -1,7 +1,7 @@
--- Which refusals a sheet can meet. 13 is write's alone: a driving time of a sheet has 10 bits. Each of the others
--- blanks in a plan and in a report.
+-- The refusals that a sheet can meet: each blanks in a plan and in a report, and none is 13, which is write's alone,
+-- because a driving time of a sheet has 10 bits.
 -- Assumes nothing.
-use mathlib.Core.Path.{_≡_, refl, sym, ap, _∙_}
+use mathlib.Core.Path.{_≡_, sym, ap, _∙_}
 use mathlib.Core.Bool.{true, false, true≢false}
 use mathlib.Core.List.{List}
 use mathlib.Core.Logic.{inl, inr}
@@ -15,9 +15,8 @@ use Rattle.terms.specs.declared.Verdict.the-variants.{Refused}
 use Rattle.terms.specs.Refusal.{numberOf, blanksOf}
 use Rattle.terms.specs.Verdict.{numberIn}
 use Rattle.terms.proofs.Checks.{fine-or-refused}
-use Rattle.terms.proofs.Refusing.{Only, Each, only-of, only-then, only-first}
+use Rattle.terms.proofs.Refusing.{Only, only-of, only-then, only-first}
 use Rattle.sheet.specs.Format.{drivingOf, entry}
-use Rattle.sheet.specs.Numbers.{timesOf}
 use Rattle.sheet.specs.Checks.{rangesVerdict, trainChecks, trainVerdict, passengersVerdict, numbersVerdict}
 use Rattle.sheet.specs.Checks.{headVerdict, fillingVerdict, bodyVerdict, sheetVerdict}
 

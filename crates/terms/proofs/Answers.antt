@@ -3,10 +3,9 @@
 use mathlib.Core.Path.{_≡_, refl}
 use Prim.Native.Nat.{ℕ}
 use Rattle.lists.proofs.Order.{zero-not-one}
-use Rattle.terms.specs.declared.Refusal.{Refusal}
 use Rattle.terms.specs.declared.Verdict.{Verdict}
 use Rattle.terms.specs.declared.Verdict.the-variants.{Fine, Refused}
-use Rattle.terms.specs.declared.Answer.the-variants.{Accepted, Refused as AnswerRefused}
+use Rattle.terms.specs.declared.Answer.the-variants.{Accepted}
 use Rattle.terms.specs.Verdict.{ifFine, numberIn, placeIn}
 use Rattle.terms.specs.Answer.{answerNumber, answerPlace, answerCarries, answerOf}
 

@@ -11,14 +11,13 @@ use Rattle.terms.specs.declared.Verdict.{Verdict}
 use Rattle.terms.specs.declared.Verdict.the-variants.{Fine, Refused}
 use Rattle.terms.specs.declared.Answer.{Answer}
 use Rattle.terms.specs.declared.Answer.the-variants.{Accepted, Refused as AnswerRefused}
-use Rattle.terms.specs.Verdict.{ifFine, numberIn, placeIn}
 use Rattle.terms.specs.Answer.{answerNumber, answerPlace, answerCarries, answerOf}
 use Rattle.terms.proofs.Checks.{refused-not-fine, fine-or-refused}
 use Rattle.terms.proofs.Answers.{answer-number, answer-place, answer-carries}
 use Rattle.sheet.specs.Format.{bytesOf}
 use Rattle.sheet.specs.Accepted.{SheetOf}
 use Rattle.sheet.proofs.Meaning.{sheet-of-one}
-use Rattle.writer.specs.Write.{Given, numbersGiven, writeVerdict, Write}
+use Rattle.writer.specs.Write.{Given, numbersGiven, writeVerdict, Write, WriteTells}
 
 module _ (G : Given) (before : List ℕ) where
   -- a refusal changes nothing
@@ -61,17 +60,12 @@ write-one G before after after′ a a′ g h =
           (fine-or-refused (writeVerdict (length before) G)),
     )
 
--- ---- what the answer carries, in the paper's numbers
-
-module _ {G : Given} {before after : List ℕ} {a : Answer} (h : Write G before after a) where
-  abbrev checks : Verdict
-  checks = writeVerdict (length before) G
-
-  pub write-number : answerNumber a ≡ numberIn checks
-  write-number = ap answerNumber (h .answer) ∙ answer-number checks (bytesOf (G .trains))
-
-  pub write-place : answerPlace a ≡ placeIn checks
-  write-place = ap answerPlace (h .answer) ∙ answer-place checks (bytesOf (G .trains))
-
-  pub write-length : answerCarries a ≡ ifFine checks (bytesOf (G .trains)) 0
-  write-length = ap answerCarries (h .answer) ∙ answer-carries checks (bytesOf (G .trains))
+-- what the answer carries, in the paper's numbers
+pub write-tells : {G : Given} {before after : List ℕ} {a : Answer} → Write G before after a → WriteTells G before a
+write-tells {G} {before} h =
+    let checks : Verdict = writeVerdict (length before) G in
+    record {
+      number = ap answerNumber (h .answer) ∙ answer-number checks (bytesOf (G .trains));
+      place = ap answerPlace (h .answer) ∙ answer-place checks (bytesOf (G .trains));
+      long = ap answerCarries (h .answer) ∙ answer-carries checks (bytesOf (G .trains));
+    }

@@ -4,6 +4,7 @@
 --   writeVerdict room G       all checks of write, in their order, for an output of `room` bytes
 --   Accepts room G            the same as plain facts
 --   Write G before after a    what write answers for G, and what it leaves of the lent bytes
+--   WriteTells G before a     the same answer in the paper's numbers; it follows from Write (writer/proofs/Outcome)
 -- Assumes nothing.
 use Prim.Native.Nat.{ℕ}
 use mathlib.Core.Path.{_≡_}
@@ -15,8 +16,8 @@ use Rattle.terms.specs.declared.Refusal.the-variants.{OfList}
 use Rattle.terms.specs.declared.Verdict.{Verdict}
 use Rattle.terms.specs.declared.Verdict.the-variants.{Fine, Refused}
 use Rattle.terms.specs.declared.Answer.{Answer}
-use Rattle.terms.specs.Verdict.{refuse_unless_is_, verdictOf, _andThen_}
-use Rattle.terms.specs.Answer.{answerOf}
+use Rattle.terms.specs.Verdict.{verdictOf, _andThen_, ifFine, numberIn, placeIn, refuse_unless_is_}
+use Rattle.terms.specs.Answer.{answerNumber, answerPlace, answerCarries, answerOf}
 use Rattle.sheet.specs.Format.{bytesOf, pairsOf}
 use Rattle.sheet.specs.Numbers.{Numbers, Lists, numbersIn}
 use Rattle.sheet.specs.Checks.{lengthsVerdict, rangesVerdict, numbersVerdict}
@@ -54,3 +55,9 @@ pub record Write (G : Given) (before after : List ℕ) (a : Answer) : Type 0 whe
   pub rest : writeVerdict (length before) G ≡ Fine
       → drop (bytesOf (G .trains)) after ≡ drop (bytesOf (G .trains)) before
   pub unchanged : (r : Refusal) → writeVerdict (length before) G ≡ Refused r → after ≡ before
+
+-- accepted answers carry number and place 0 and the length; refused ones number and place, and length 0
+pub record WriteTells (G : Given) (before : List ℕ) (a : Answer) : Type 0 where
+  pub number : answerNumber a ≡ numberIn (writeVerdict (length before) G)
+  pub place : answerPlace a ≡ placeIn (writeVerdict (length before) G)
+  pub long : answerCarries a ≡ ifFine (writeVerdict (length before) G) (bytesOf (G .trains)) 0

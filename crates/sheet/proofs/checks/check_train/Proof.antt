@@ -1,7 +1,6 @@
 -- `checks::check_train` meets its contract: the times of the train stand one place before its number.
 -- Assumes nothing.
 use borrow.Author.Needs.{needs}
-use mathlib.Core.Path.{sym, _∙_}
 use native.Mathlib.Omega.{arith}
 use Rattle.sheet.specs.Checks.{trainVerdict}
 use Rattle.sheet.proofs.checks.check_train.Statement.{statement}
