@@ -1,5 +1,6 @@
 // Lists that a loop fills place by place. The laws in proofs/ serve every loop of the project, at
 // any element.
+#![tactic(auto)]
 ghost use Rattle.std.specs.Prelude.{◌≡◌, length, replicate};
 
 // Every byte of `list` becomes `value`.

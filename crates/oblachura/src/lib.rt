@@ -2,6 +2,7 @@
 // them. Each returns the number of the refusal, 0 where accepted, and stores the answer's numbers
 // in the list `answer`. Nothing is decided here but whether that list has its length; where it has
 // not, the call is 10 and writes nothing. No call has a `requires`.
+#![tactic(auto)]
 mod telling;
 
 ghost use Rattle.sheet.specs.Numbers.{lists};

@@ -2,6 +2,7 @@
 // number, its decision ('-' for train 1) and its arrival delay. Refused: number and place. Document
 // 01, "Sums to check by hand". A sheet that is longer than any line has is read no further than
 // 3,908 bytes, which is enough to refuse it.
+#![tactic(auto)]
 ghost use Rattle.std.specs.Prelude.{◌≤◌};
 
 use bits::field;

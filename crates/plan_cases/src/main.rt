@@ -1,6 +1,7 @@
 // Document 01, "Sums to check by hand" and "By program", for plan: the records of stdin, and what
 // they must print, stdout. tests/plan_cases.py makes both, from what document 01 prints and, where
 // it prints nothing, from the independent reading in tests/plans.py.
+#![tactic(auto)]
 fn main() {
     plan_run::run(libc::STDIN_FILENO);
 }

@@ -2,6 +2,7 @@
 // A record is a name ('N'), a sheet to plan, its lists shown as sums ('P') or in full ('L'), or a
 // run of several steps on one sheet, the lists shown as sums ('R') or in full ('F').
 // tests/plans.py gives the form of the first three, tests/reports.py that of a run.
+#![tactic(auto)]
 mod changes;
 mod lengths;
 mod marks;

@@ -1,6 +1,7 @@
 // Many lines to plan, valid and damaged, long and short: the records of stdin.
 // What they must print, stdout, comes from the independent reading of document 01 in
 // tests/plans.py.
+#![tactic(auto)]
 fn main() {
     plan_run::run(libc::STDIN_FILENO);
 }

@@ -1,6 +1,7 @@
 // Read: a sheet into four lent lists, refused by number. Each field of the sheet is read once.
 // `read` has no `requires`: any bytes and any lists get an answer. `decoding::decode`, from which
 // planning and reporting start too, asks for lists of the right lengths.
+#![tactic(auto)]
 pub mod decoding;
 
 ghost use Rattle.std.specs.Prelude.{◌≡◌};

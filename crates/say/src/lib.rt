@@ -1,4 +1,5 @@
 // What the programs write to standard output: words and numbers.
+#![tactic(auto)]
 use libc::STDOUT_FILENO;
 
 pub fn word(text: &[u8]) {

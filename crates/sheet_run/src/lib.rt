@@ -1,6 +1,7 @@
 // Runs read and write on records from a file descriptor and prints what they answer and leave.
 // A record is a name ('N'), a sheet to read ('R') or numbers to write ('W'); tests/sheets.py gives
 // their form.
+#![tactic(auto)]
 mod reads;
 mod writes;
 

@@ -1,5 +1,6 @@
 // The vocabulary: trains and stations, numbered apart; the refusals by name; what a check finds and
 // what an operation answers. No other crate knows the number or the place of a refusal.
+#![tactic(auto)]
 ghost use Rattle.std.specs.Prelude.{◌≡◌, ◌+◌, ◌-◌, ◌≤◌};
 ghost use Rattle.terms.specs.Refusal.{number_of, place_of, blanks_of};
 ghost use Rattle.terms.specs.Answer.{answer_number, answer_place, answer_carries};

@@ -1,4 +1,5 @@
 // Decisions and arrival delays read off cells as they stand, train by train.
+#![tactic(auto)]
 ghost use Rattle.std.specs.Prelude.{◌≡◌};
 ghost use Rattle.line.specs.Cells.{prefer};
 ghost use Rattle.cells.specs.Place.{table_of};
