@@ -16,7 +16,7 @@ use sheet::checks::check_lengths;
 use terms::{ListFault, Refusal, Verdict};
 
 // What read answers, and what a sheet that is decoded or prepared answers: m and T, or why not.
-#[derive(Drop)]
+#[derive(Clone, Copy)]
 pub enum Reading {
     Accepted(u32, u32),
     Refused(Refusal),
