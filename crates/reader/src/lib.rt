@@ -2,6 +2,7 @@
 // `read` has no `requires`: any bytes and any lists get an answer. `decoding::decode`, from which
 // planning and reporting start too, asks for lists of the right lengths.
 #![tactic(auto)]
+
 pub mod decoding;
 
 ghost use Rattle.std.specs.Prelude.{◌≡◌};
