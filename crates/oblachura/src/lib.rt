@@ -1,7 +1,8 @@
 // The C boundary: read, write, plan and report for programs in C; oblachura_c exports them under
-// these names, and include/oblachura.h declares them. Each returns the number of the refusal, 0 where accepted, and stores the answer's numbers
-// in the list `answer`. Nothing is decided here but whether that list has its length; where it has
-// not, the call is 10 and writes nothing. No call has a `requires`.
+// these names, and include/oblachura.h declares them. Each returns the number of the refusal, 0
+// where accepted, and stores the answer's numbers in the list `answer`. Nothing is decided here but
+// whether that list has its length; where it has not, the call is 10 and writes nothing. No call
+// has a `requires`.
 #![tactic(auto)]
 mod telling;
 
