@@ -45,7 +45,7 @@ fn choose(costs: &[u64], cells: &[u64], m: u32, first: Train, train: Train) -> u
 
 // What one station decides: the byte, the train that the run then begins with, and how late its
 // train arrives.
-#[derive(Drop)]
+#[derive(Clone, Copy)]
 struct Step {
     decision: u8,
     first: Train,
