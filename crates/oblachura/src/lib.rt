@@ -4,6 +4,7 @@
 // whether that list has its length; where it has not, the call is 10 and writes nothing. No call
 // has a `requires`.
 #![tactic(auto)]
+
 mod telling;
 
 ghost use Rattle.sheet.specs.Numbers.{lists};
