@@ -2,6 +2,7 @@
 // numbers. Nothing here has a `requires`, so that none of the four can ask for anything: what it
 // asked for would have to be shown here, of any lists. What each promises is what its caller has.
 #![tactic(auto)]
+
 ghost use Rattle.sheet.specs.Numbers.{lists};
 ghost use Rattle.writer.specs.Write.{given};
 ghost use Rattle.planner.specs.Buffers.{buffers};

@@ -87,7 +87,8 @@ module _ (m k : ℕ) (timing sums : List ℕ) where
     pub done : (l : ℕ) → k ≤ l → l < i → CostsAt B k l costs
 
   -- the run begins on time
-  pub costs_start : (costs : List ℕ) (boarded : ℕ) → BookGiven m timing sums → 1 ≤ k → k ≤ m → length costs ≡ costs_count
+  pub costs_start : (costs : List ℕ) (boarded : ℕ) → BookGiven m timing sums → 1 ≤ k → k ≤ m → length costs
+      ≡ costs_count
       → boarded ≡ boarded_in m sums k k → CostsTo costs 0 boarded k
   costs_start costs boarded given first last long e =
       record {
@@ -127,7 +128,8 @@ module _ (m k : ℕ) (timing sums : List ℕ) where
 
     -- one station more
     pub costs_next : (x a n b t y z : ℕ) → x ≡ late - slack_in timing i → a ≡ x + source_in timing i
-        → n ≡ leaving_in sums k i → b ≡ boarded_in m sums i i → t ≡ period_in timing i → y ≡ n * a → z ≡ (boarded - b) * t
+        → n ≡ leaving_in sums k i → b ≡ boarded_in m sums i i → t ≡ period_in timing i → y ≡ n * a → z
+        ≡ (boarded - b) * t
         → CostsTo (with_costs costs i x y z) a (boarded - n) (i + 1)
     costs_next x a n b t y z ex ea en eb et ey ez =
         let pos : 1 ≤ i = omega (arith, S.first, S.from) in

@@ -2,7 +2,8 @@
 // station k or later and leave train l.
 ghost use Rattle.std.specs.Prelude.{◌≡◌, ◌≤◌, ◌<◌, length};
 ghost use Rattle.line.specs.Ranges.{everyone};
-ghost use Rattle.cells.specs.Sums.{sums_count, place_of_sum, leaving_in, boarded_in, SumsGiven, Boarders};
+ghost use Rattle.cells.specs.Sums.{sums_count, place_of_sum, leaving_in, boarded_in};
+ghost use Rattle.cells.specs.Sums.{SumsGiven, Boarders};
 
 use crate::timing::wide;
 use terms::{Station, Train};

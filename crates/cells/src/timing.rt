@@ -2,7 +2,8 @@
 // station. In code no other file knows where they stand.
 ghost use Rattle.std.specs.Prelude.{◌≡◌, ◌+◌, ◌-◌, ◌*◌, ◌≤◌, ◌<◌, length, get_or, set};
 ghost use Rattle.line.specs.Ranges.{latest, everyone, limit};
-ghost use Rattle.cells.specs.Timing.{timing_count, place_of_slack, place_of_source, place_of_period};
+ghost use Rattle.cells.specs.Timing.{timing_count, place_of_slack};
+ghost use Rattle.cells.specs.Timing.{place_of_source, place_of_period};
 ghost use Rattle.cells.specs.Timing.{slack_in, source_in, period_in};
 
 use terms::{Station, Train};

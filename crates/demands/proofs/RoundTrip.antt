@@ -17,7 +17,8 @@ use Rattle.terms.proofs.Answers.{accepted_answer}
 use Rattle.terms.specs.declared.Verdict.{Verdict}
 use Rattle.terms.specs.declared.Answer.{Answer}
 use Rattle.terms.specs.declared.Answer.TheVariants.{Accepted as WriteAccepted}
-use Rattle.sheet.specs.Format.{trains_of, period_of, departure_of, driving_of, delay_of, passengers_of, bytes_of, pairs_of}
+use Rattle.sheet.specs.Format.{trains_of, period_of, departure_of, driving_of, delay_of}
+use Rattle.sheet.specs.Format.{passengers_of, bytes_of, pairs_of}
 use Rattle.sheet.specs.Numbers.{Lists, lists, numbers_of}
 use Rattle.sheet.specs.Checks.{sheet_verdict}
 use Rattle.sheet.specs.Accepted.{Lengths, AcceptedSheet, SameNumbers, SheetOf}

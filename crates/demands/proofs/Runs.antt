@@ -43,7 +43,8 @@ use Rattle.planner.specs.Settled.{Settled}
 use Rattle.planner.specs.Outcome.{Outcome}
 use Rattle.planner.specs.Plan.{plan_verdict, Planned, Plan}
 use Rattle.planner.specs.Report.{report_verdict, Reported, Report}
-use Rattle.planner.proofs.Refusals.{buffers_refusal, checks_right, accepted_of_plan, after_lengths_verdict, fine_of_facts}
+use Rattle.planner.proofs.Refusals.{buffers_refusal, checks_right, accepted_of_plan}
+use Rattle.planner.proofs.Refusals.{after_lengths_verdict, fine_of_facts}
 use Rattle.planner.proofs.Refusals.{accepted_of_report}
 use Rattle.planner.proofs.Outcome.{outcome_accepted, outcome_number, settled_planned, refused_cells, planned_same}
 use Rattle.demands.specs.Calling.{Right, operations}

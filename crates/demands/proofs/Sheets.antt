@@ -28,7 +28,8 @@ use Rattle.demands.proofs.Printed.{pair_rows, lines_same, leaves}
 
 both_accepted : (sheet_verdict sheet_b ≡ Fine) × (sheet_verdict sheet_b13 ≡ Fine)
 unfolding sheet_verdict head_verdict ranges_verdict body_verdict numbers_verdict train_verdict train_checks earliest_of
-    passengers_verdict filling_verdict verdict_of ◌and_then◌ first_of run_of if_below bit_at field_of entry bits_of bytes_of
+    passengers_verdict filling_verdict verdict_of ◌and_then◌ first_of run_of if_below bit_at
+    field_of entry bits_of bytes_of
     pairs_of
 both_accepted = (refl, refl)
 

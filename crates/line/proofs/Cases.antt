@@ -120,7 +120,8 @@ each_holds c cs (Memᴰ.tail {xs = others} m) same = each_holds c others m (cc)
 
 numbers : map computed table ≡ map printed table
 unfolding if_below if_same run_of listed sum◌from◌to◌ line_from arrival excess departure missed at_first_missed counts
-    pairs_total total leaving aboard run_from excess_on arrival_on keep_cost go_cost cell_by choice begins policy_by decide
+    pairs_total total leaving aboard run_from excess_on arrival_on keep_cost go_cost cell_by
+    choice begins policy_by decide
     better first_least rows_of
 numbers = refl
 

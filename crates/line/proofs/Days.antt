@@ -21,7 +21,8 @@ module _ (k : ℕ) (L M : Line) (D E : Day) (lines : LinesAlike k L M) (days : D
       (counts_last L D t ∙ days.arrival t (omega arith) u ∙ sym (counts_last M E t))
       (λ h c d e.
       counts_next L D h t d
-      ∙ if_same_lem (days.missed (h + 1) (omega arith) (omega arith)) (lines.period (h + 1) (omega arith) (omega arith)) e
+      ∙ if_same_lem (days.missed (h + 1) (omega arith) (omega arith))
+      (lines.period (h + 1) (omega arith) (omega arith)) e
       ∙ sym (counts_next M E h t d))
 
   -- those who board at k or later: trains k to m alone

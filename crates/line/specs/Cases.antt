@@ -123,6 +123,7 @@ table =
 pub record CasesHold : Type 0 where
   pub each : (c : Case) → Memᴰ c table → Holds c
   -- Line B: both slacks are 5, whatever T and the delays. Lines C and D: slack 0.
-  pub slacks_b : (T : ℕ) (delay : ℕ → ℕ) → ((line_b T delay).running.slack 2 ≡ 5) × ((line_b T delay).running.slack 3 ≡ 5)
+  pub slacks_b : (T : ℕ) (delay : ℕ → ℕ) → ((line_b T delay).running.slack 2 ≡ 5)
+      × ((line_b T delay).running.slack 3 ≡ 5)
   pub slack_c : line_c.running.slack 2 ≡ 0
   pub slack_d : line_d.running.slack 2 ≡ 0

@@ -15,7 +15,8 @@ use Rattle.lists.proofs.Choice.{below_yes, below_no}
 use Rattle.lists.proofs.Order.{lt_or_ge}
 
 module _ {A B : Type 0} (step : A → B → B) (done : B) where
-  pub run_next : (f : ℕ → A) (i n : ℕ) → 0 < n → run_of step done f i n ≡ step (f i) (run_of step done f (i + 1) (n - 1))
+  pub run_next : (f : ℕ → A) (i n : ℕ) → 0 < n
+      → run_of step done f i n ≡ step (f i) (run_of step done f (i + 1) (n - 1))
   unfolding run_of
   run_next f i n l =
       let e : suc (n - 1) ≡ n = omega arith in
@@ -76,7 +77,8 @@ padded_nth l size n f e c i a b =
 
 -- a list with these entries is this list
 pub padded_ext : (size n : ℕ) (f : ℕ → ℕ) (l : List ℕ) → length l ≡ size
-    → ((k : ℕ) → k < n → k < size → get_or l k 0 ≡ f (k + 1)) → ((k : ℕ) → n ≤ k → get_or l k 0 ≡ 0) → l ≡ padded size n f
+    → ((k : ℕ) → k < n → k < size → get_or l k 0 ≡ f (k + 1)) → ((k : ℕ) → n ≤ k → get_or l k 0 ≡ 0)
+    → l ≡ padded size n f
 padded_ext size n f l e g h =
     ext_get_or 0 l (padded size n f) (e ∙ sym (padded_length size n f))
     (λ k b.

@@ -42,7 +42,8 @@ pub record Returns (n : ℕ) (list : List ℕ) (checks : Verdict) (brought store
 
 -- what an accepted call brings; refused ones carry 0
 abbrev pub read_brings : List ℕ → Lists → List ℕ
-read_brings s before = if_fine (read_verdict s before) (trains_of s) 0 ∷ if_fine (read_verdict s before) (period_of s) 0 ∷ []
+read_brings s before =
+    if_fine (read_verdict s before) (trains_of s) 0 ∷ if_fine (read_verdict s before) (period_of s) 0 ∷ []
 
 abbrev pub write_brings : Given → List ℕ → List ℕ
 write_brings G before = if_fine (write_verdict (length before) G) (bytes_of G.trains) 0 ∷ []

@@ -1,6 +1,7 @@
 // The calls as C knows them; include/oblachura.h declares them. Each is the library's call of the
 // same name and promises what it promises. None has a `requires`.
 #![tactic(auto)]
+
 ghost use Rattle.sheet.specs.Numbers.{lists};
 ghost use Rattle.writer.specs.Write.{given};
 ghost use Rattle.planner.specs.Buffers.{buffers};

@@ -81,7 +81,8 @@ module _ (s : List ℕ) (before after : Lists) (h : ColumnsRead s before after) 
       }
 
   -- the lists hold the sheet's numbers
-  pub columns_numbers : (m T : ℕ) → m ≡ trains_of s → T ≡ period_of s → SameNumbers (numbers_in m T after) (numbers_of s)
+  pub columns_numbers : (m T : ℕ) → m ≡ trains_of s → T ≡ period_of s
+      → SameNumbers (numbers_in m T after) (numbers_of s)
   columns_numbers m T trains period =
       record {
         trains = trains;

@@ -69,7 +69,8 @@ module _ (s : List ℕ) (before : Lists) {a : Reading} where
 
   -- a head that passed: the body decides
   pub decoded_body : (after : Lists) → head_verdict s ≡ Fine
-      → a ≡ reading_of (body_verdict s) (trains_of s) (period_of s) → ColumnsRead s before after → Decoded s before after a
+      → a ≡ reading_of (body_verdict s) (trains_of s) (period_of s) → ColumnsRead s before after
+      → Decoded s before after a
   unfolding sheet_verdict
   decoded_body after fine e columns =
       record {

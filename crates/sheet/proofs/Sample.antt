@@ -40,7 +40,8 @@ sheet_a_lem =
 
 pub sheet_a_accepted : sheet_verdict sheet_a ≡ Fine
 unfolding sheet_verdict head_verdict ranges_verdict body_verdict numbers_verdict train_verdict train_checks earliest_of
-    passengers_verdict filling_verdict verdict_of ◌and_then◌ first_of run_of if_below bit_at field_of entry bits_of bytes_of
+    passengers_verdict filling_verdict verdict_of ◌and_then◌ first_of run_of if_below bit_at
+    field_of entry bits_of bytes_of
     pairs_of
 sheet_a_accepted = refl
 

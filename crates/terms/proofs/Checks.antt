@@ -107,7 +107,8 @@ fine_of_passed (c ∷ rest) h = elim (check_or_rest c rest) [
 
 -- ---- what a function answers that tests one check after the other
 
-pub hit : (r : Refusal) (a b : ℕ) (rest : List Check) → a < b → Refused r ≡ verdict_of ((refuse r when a below b) ∷ rest)
+pub hit : (r : Refusal) (a b : ℕ) (rest : List Check) → a < b
+    → Refused r ≡ verdict_of ((refuse r when a below b) ∷ rest)
 unfolding verdict_of
 hit r a b rest l = sym (below_yes _ _ l)
 

@@ -202,7 +202,8 @@ module _ (m : ℕ) (decisions₀ delays₀ costs₀ cells timing sums boarding :
       }
 
   -- and its train arrives no later than any can
-  pub walk_late : (k l d f x : ℕ) (costs : List ℕ) → l ≤ m → Stepped book (table_of m cells) k l d f x costs → x ≤ latest
+  pub walk_late : (k l d f x : ℕ) (costs : List ℕ) → l ≤ m → Stepped book (table_of m cells) k l d f x costs
+      → x ≤ latest
   walk_late k l d f x costs last s =
       le_trans (le_of_eq s.late)
       (arrival_on_le m (running_in timing) (running_in_range m timing given.given.times) _ l last)

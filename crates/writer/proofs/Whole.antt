@@ -10,7 +10,8 @@ use lib.Dec.{lit≤}
 use lib.ListN.{length, get_or}
 use Rattle.bits.specs.Field.{field_of, Apart, Bytes}
 use Rattle.bits.proofs.Puts.{put_apart}
-use Rattle.sheet.specs.Format.{trains_of, departure_column, driving_column, delay_column, passenger_column, entry, bytes_of}
+use Rattle.sheet.specs.Format.{trains_of, departure_column, driving_column, delay_column}
+use Rattle.sheet.specs.Format.{passenger_column, entry, bytes_of}
 use Rattle.sheet.specs.Numbers.{numbers_of}
 use Rattle.sheet.specs.Accepted.{SameNumbers, SheetOf}
 use Rattle.sheet.proofs.Lengths.{layout, bytes_bits, train_within, passengers_within, trains_apart}

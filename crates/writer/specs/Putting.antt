@@ -9,7 +9,8 @@ use Rattle.std.specs.Prelude.{ℕ, ◌+◌, ◌-◌, ◌*◌, ◌^◌, ◌≤◌
 use Rattle.lists.specs.Run.{nth}
 use Rattle.bits.specs.Field.{field_of, Apart, Within, Put}
 use Rattle.sheet.specs.declared.format.Column.{Column}
-use Rattle.sheet.specs.Format.{trains_of, period_of, entry, departure_of, driving_of, delay_of, bits_of, bytes_of, pairs_of}
+use Rattle.sheet.specs.Format.{trains_of, period_of, entry, departure_of, driving_of}
+use Rattle.sheet.specs.Format.{delay_of, bits_of, bytes_of, pairs_of}
 use Rattle.sheet.specs.Accepted.{Lengths, InRange}
 use Rattle.writer.specs.Write.{Given, numbers_given}
 

@@ -6,7 +6,7 @@ use Rattle.bits.specs.Field.{bit_at}
 use Rattle.bits.proofs.bit.Goals as goal
 
 pub overflow_cast-byte : goal.overflow_cast-byte
-overflow_cast-byte c = omega (arith, c.shared_slice_known-1.given (c.args.i / 8))
+overflow_cast-byte c = omega (arith, c.type_inv.bytes (c.args.i / 8))
 
 pub returns : goal.returns
 unfolding bit_at

@@ -1,3 +1,4 @@
+-- `bits::field` meets its contract by the invariant beside this file.
 use mathlib.Core.Path.{sym, ap, ◌∙◌}
 use Prim.Native.Nat.{◌<◌, ◌+◌}
 use native.Mathlib.Omega.{arith}

@@ -1,3 +1,4 @@
+-- `bits::put` meets its contract by the invariant beside this file.
 use mathlib.Core.Path.{◌≡◌, refl, sym, ap, subst, ◌∙◌}
 use mathlib.Core.List.{List}
 use Prim.Native.Nat.{ℕ, ◌<◌, ◌+◌, ◌-◌, ◌*◌, ◌/◌, ◌%◌, ◌^◌}
@@ -9,8 +10,8 @@ use Rattle.bits.proofs.Puts.{put_none, put_more}
 use Rattle.bits.proofs.put.Invariants.{Putting}
 use Rattle.bits.proofs.put.Goals as goal
 
-putting-none : (s : List ℕ) (at w v : ℕ) → Putting s at w v w v s
-putting-none s at w v =
+putting_none : (s : List ℕ) (at w v : ℕ) → Putting s at w v w v s
+putting_none s at w v =
     let e : w - w ≡ 0 = omega arith in
     record {
       within = omega arith;
@@ -18,9 +19,9 @@ putting-none s at w v =
       done = rw (e, mod-one v) (put_none s (at + w));
     }
 
-putting-next : {s t u : List ℕ} {at w v left rest : ℕ} → Putting s at w v left rest t → 0 < left
+putting_next : {s t u : List ℕ} {at w v left rest : ℕ} → Putting s at w v left rest t → 0 < left
     → Put t (at + (left - 1)) 1 (rest % 2) u → Putting s at w v (left - 1) (rest / 2) u
-putting-next {s} {t} {u} {at} {w} {v} {left} {rest} p l h =
+putting_next {s} {t} {u} {at} {w} {v} {left} {rest} p l h =
     let k : ℕ = w - left in
     let e : w - (left - 1) ≡ 1 + k = omega (arith, p.within) in
     let f : at + left ≡ at + (left - 1) + 1 = omega arith in
@@ -32,24 +33,24 @@ putting-next {s} {t} {u} {at} {w} {v} {left} {rest} p l h =
       done = rw (e, split) (put_more (at + (left - 1)) g h);
     }
 
-putting-all : {s t : List ℕ} {at w v left rest : ℕ} → Putting s at w v left rest t → left ≡ 0 → v < 2 ^ w
+putting_all : {s t : List ℕ} {at w v left rest : ℕ} → Putting s at w v left rest t → left ≡ 0 → v < 2 ^ w
     → Put s at w v t
-putting-all {s} {t} {at} {w} {v} p e l =
+putting_all {s} {t} {at} {w} {v} p e l =
     let z : w - 0 ≡ w = omega arith in
     let h : Put s (at + 0) w (v % 2 ^ w) t = rw (e, z) at p.done in
     subst (λ (x : ℕ). Put s at w x t) (mod-eq_of_lt l) (rw (add-zero at) at h)
 
 pub loop-left-init : goal.loop-left-init
-loop-left-init c = putting-none _ _ _ _
+loop-left-init c = putting_none _ _ _ _
 
 -- one bit more is put in front
 pub loop-left-preserved : goal.loop-left-preserved
 loop-left-preserved c =
-    putting-next c.loop-left.invariant (omega arith)
+    putting_next c.loop-left.invariant (omega arith)
     c.put_bit.ensures
 
 pub shape_of-bytes : goal.shape_of-bytes
 shape_of-bytes c = c.loop-left.invariant.done.long
 
 pub returns : goal.returns
-returns c = putting-all c.loop-left.invariant (omega arith) c.requires.1
+returns c = putting_all c.loop-left.invariant (omega arith) c.requires.1

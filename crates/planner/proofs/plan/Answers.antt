@@ -35,8 +35,13 @@ settle-requires c =
     let checked = after_same _ (lengths (goal.at.settle-requires c).After-prepare-checked) c.prepare-checked.ensures in
     let answer = c.in-Accepted.is in
     let fine = taken_fine checked answer in (
-      record { last = le_refl _; lengths = (passed (goal.at.settle-requires c).In-Accepted).0; later = λ k l a b d. absurd (omega arith) },
-      taken_given _ _ _ _ (passed (goal.at.settle-requires c).In-Accepted).1.numbers (taken_trains checked answer) (checked.times fine)
+      record {
+        last = le_refl _;
+        lengths = (passed (goal.at.settle-requires c).In-Accepted).0;
+        later = λ k l a b d. absurd (omega arith);
+      },
+      taken_given _ _ _ _ (passed (goal.at.settle-requires c).In-Accepted).1.numbers (taken_trains checked answer)
+          (checked.times fine)
           (checked.leavers fine),
     )
 
@@ -46,7 +51,8 @@ unfolding plan_verdict
 returns-in-Refused c =
     let lent = buffers c.args.cells.now c.args.decisions.now c.args.delays.now in
     let left = c.refuse.ensures in
-    let checked = after_same _ (lengths (goal.at.returns-in-Refused c).After-prepare-checked) c.prepare-checked.ensures in
+    let checked = after_same _
+    (lengths (goal.at.returns-in-Refused c).After-prepare-checked) c.prepare-checked.ensures in
     let verdict = refused_verdict _ _ _ (sym c.in-Refused.is ∙ checked.answer) in
     rw left.0
     (outcome_refused _ _ lent _ _ (sym verdict)
@@ -56,11 +62,13 @@ returns-in-Refused c =
 pub returns-in-Accepted : goal.returns-in-Accepted
 unfolding plan_verdict line_of line_from
 returns-in-Accepted c =
-    let checked = after_same _ (lengths (goal.at.returns-in-Accepted c).After-prepare-checked) c.prepare-checked.ensures in
+    let checked = after_same _
+    (lengths (goal.at.returns-in-Accepted c).After-prepare-checked) c.prepare-checked.ensures in
     let answer = c.in-Accepted.is in
     let fine = taken_fine checked answer in
     let lent = buffers c.args.cells.now c.args.decisions.now c.args.delays.now in
     outcome_accepted _ _ lent _ (sym fine)
     (settled_planned _ _ lent _ _ (taken_trains checked answer)
-    (settled_for (numbers_of _) _ _ _ (passed (goal.at.returns-in-Accepted c).In-Accepted).1.numbers (taken_trains checked answer) (checked.times fine)
+    (settled_for (numbers_of _) _ _ _ (passed (goal.at.returns-in-Accepted c).In-Accepted).1.numbers
+    (taken_trains checked answer) (checked.times fine)
     (checked.leavers fine) _ lent _ _ c.settle.ensures))

@@ -24,6 +24,6 @@ put-requires c =
 pub returns : goal.returns
 returns c =
     record {
-      bytes = λ i. (c.slice_known-2-1.given i).fits;
+      bytes = λ i. (c.type_inv.sheet i).fits;
       put = rw (c.delays-column.ensures, c.index-k.ensures) at c.put.ensures;
     }

@@ -52,7 +52,8 @@ replace_delay-requires c =
 -- the later rows allow the work
 pub settle-requires : goal.settle-requires
 settle-requires c =
-    let checked = after_same _ (lengths (goal.at.settle-requires c).After-check_report-checked) c.check_report-checked.ensures in
+    let checked = after_same _
+    (lengths (goal.at.settle-requires c).After-check_report-checked) c.check_report-checked.ensures in
     let answer = c.in-Accepted.is in
     let fine = taken_fine checked answer in
     let trains = taken_trains checked answer in
@@ -70,7 +71,8 @@ unfolding report_verdict
 returns-in-Refused c =
     let lent = buffers c.args.cells.now c.args.decisions.now c.args.delays.now in
     let left = c.refuse.ensures in
-    let checked = after_same _ (lengths (goal.at.returns-in-Refused c).After-check_report-checked) c.check_report-checked.ensures in
+    let checked = after_same _
+    (lengths (goal.at.returns-in-Refused c).After-check_report-checked) c.check_report-checked.ensures in
     let verdict = refused_verdict _ _ _ (sym c.in-Refused.is ∙ checked.answer) in
     rw left.0
     (record {
@@ -84,7 +86,8 @@ returns-in-Refused c =
 pub returns-in-Accepted : goal.returns-in-Accepted
 unfolding report_verdict
 returns-in-Accepted c =
-    let checked = after_same _ (lengths (goal.at.returns-in-Accepted c).After-check_report-checked) c.check_report-checked.ensures in
+    let checked = after_same _
+    (lengths (goal.at.returns-in-Accepted c).After-check_report-checked) c.check_report-checked.ensures in
     let answer = c.in-Accepted.is in
     let fine = taken_fine checked answer in
     let ok = passed (goal.at.returns-in-Accepted c).In-Accepted in

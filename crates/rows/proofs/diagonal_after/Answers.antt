@@ -16,18 +16,18 @@ loop-i-init c =
 -- one row more
 pub loop-i-preserved : goal.loop-i-preserved
 loop-i-preserved c =
-    let at-loop = c.loop-i in
-    let I = at-loop.invariant in
-    let pos : 1 ≤ at-loop.i = omega (arith, I.0, I.1) in
+    let at_loop = c.loop-i in
+    let I = at_loop.invariant in
+    let pos : 1 ≤ at_loop.i = omega (arith, I.0, I.1) in
     let at = rw c.leaves-at.ensures at c.index.ensures in
     let cell = rw c.leaves-at.ensures at c.cell_at.ensures in (
       omega (arith, I.0),
       I.1,
       omega arith,
       simp length-set I.3,
-      held_set at-loop.diagonal c.index.result at-loop.i _ at pos _ _ (at-loop.i + 1) I.1
+      held_set at_loop.diagonal c.index.result at_loop.i _ at pos _ _ (at_loop.i + 1) I.1
           (omega (arith, I.3, c.requires.1)) cell (λ l a b n. I.4 l a (omega arith)),
-      λ l a b. nth_set_other at-loop.diagonal c.index.result at-loop.i _ at pos l a (λ e. omega (arith, I.0))
+      λ l a b. nth_set_other at_loop.diagonal c.index.result at_loop.i _ at pos l a (λ e. omega (arith, I.0))
           ∙ I.5 l a b,
     )
 

@@ -9,7 +9,8 @@ use Rattle.rows.proofs.diagonal_after.Given as goal
 
 abbrev pub invariant-loop-i : goal.invariant-loop-i
 invariant-loop-i l =
-    (l.initial.i ≤ l.i) × (1 ≤ l.initial.i) × (l.i ≤ l.m + 1) × (length l.diagonal ≡ 64) × Held l.diagonal (λ t. table_of l.m l.cells t t) l.initial.i l.i
+    (l.initial.i ≤ l.i) × (1 ≤ l.initial.i) × (l.i ≤ l.m + 1) × (length l.diagonal ≡ 64)
+    × Held l.diagonal (λ t. table_of l.m l.cells t t) l.initial.i l.i
     × ((t : ℕ) → 1 ≤ t → t < l.initial.i → nth l.diagonal t ≡ nth l.initial.diagonal t)
 
 abbrev pub decreases-loop-i : goal.decreases-loop-i

@@ -35,7 +35,8 @@ pub offset_bounds-cells-a : goal.offset_bounds-cells-a
 offset_bounds-cells-a c = omega (arith, (spot (goal.at.offset_bounds-cells-a c).After-place-a).1)
 
 pub slice_bounds-fill_row-end : goal.slice_bounds-fill_row-end
-slice_bounds-fill_row-end c = omega (arith, (spot (goal.at.slice_bounds-fill_row-end c).After-place-a).1, c.requires.long)
+slice_bounds-fill_row-end c =
+    omega (arith, (spot (goal.at.slice_bounds-fill_row-end c).After-place-a).1, c.requires.long)
 
 -- what the row is filled from can be added
 pub fill_row-requires : goal.fill_row-requires

@@ -35,7 +35,13 @@ work_row-cell-requires c =
 pub bounds-diagonal-index : goal.bounds-diagonal-index
 bounds-diagonal-index c =
     let start = c.requires in
-    omega (arith, here (goal.at.bounds-diagonal-index c).After-index, c.loop-i.invariant.0.most, start.last, start.given.times.trains)
+    omega (
+      arith,
+      here (goal.at.bounds-diagonal-index c).After-index,
+      c.loop-i.invariant.0.most,
+      start.last,
+      start.given.times.trains,
+    )
 
 -- one row more
 pub loop-i-preserved : goal.loop-i-preserved

@@ -8,7 +8,8 @@ use Rattle.rows.proofs.work_rows.Given as goal
 
 abbrev pub invariant-loop-i : goal.invariant-loop-i
 invariant-loop-i l =
-    WorkedTo (book_in l.m l.timing l.sums) l.initial.i l.initial.cells l.cells l.diagonal l.i × (length l.costs ≡ costs_count)
+    WorkedTo (book_in l.m l.timing l.sums) l.initial.i l.initial.cells l.cells l.diagonal l.i
+    × (length l.costs ≡ costs_count)
 
 abbrev pub decreases-loop-i : goal.decreases-loop-i
 decreases-loop-i l = l.i

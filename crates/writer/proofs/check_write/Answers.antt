@@ -15,16 +15,16 @@ use Rattle.writer.proofs.check_write.Goals as goal
 use Rattle.writer.proofs.check_write.Goals.{After-check_lengths-lengths, In_default}
 
 -- m and T passed
-right-ranges : (c : In_default) →
+right_ranges : (c : In_default) →
     let start = c.args in ranges_verdict start.m start.period ≡ Fine
-right-ranges c = sym c.check_ranges-ranges.ensures ∙ c.in_default.is
+right_ranges c = sym c.check_ranges-ranges.ensures ∙ c.in_default.is
 
 -- what the lengths are compared with
-lengths-are : (c : After-check_lengths-lengths) →
+lengths_are : (c : After-check_lengths-lengths) →
     let start = c.args in
     let given = lists start.departures.now start.driving.now start.delays.now start.passengers.now in
     c.check_lengths-lengths.result ≡ lengths_verdict (OfList ListLength) start.m (pairs_of start.m) given
-lengths-are c =
+lengths_are c =
     let start = c.args in
     let given = lists start.departures.now start.driving.now start.delays.now start.passengers.now in
     c.check_lengths-lengths.ensures
@@ -43,21 +43,25 @@ returns-in-Refused c =
     (then_stop _ _ c.in-Refused.is c.check_ranges-ranges.ensures)
 
 pub pairs_of-pairs-requires : goal.pairs_of-pairs-requires
-pairs_of-pairs-requires c = (ranges_of_fine _ _ (right-ranges (goal.at.pairs_of-pairs-requires c).In_default)).trains_most
+pairs_of-pairs-requires c =
+    (ranges_of_fine _ _ (right_ranges (goal.at.pairs_of-pairs-requires c).In_default)).trains_most
 
 -- a list has another length
 pub returns-in-Refused-lengths : goal.returns-in-Refused-lengths
 unfolding write_verdict
 returns-in-Refused-lengths c =
     then_pass _ _ _ (fine_of_passed _ (omega arith, tt))
-    (then_pass _ _ _ (right-ranges (goal.at.returns-in-Refused-lengths c).In_default)
-    (then_stop _ _ c.in-Refused-lengths.is (lengths-are (goal.at.returns-in-Refused-lengths c).After-check_lengths-lengths)))
+    (then_pass _ _ _ (right_ranges (goal.at.returns-in-Refused-lengths c).In_default)
+    (then_stop _ _ c.in-Refused-lengths.is
+    (lengths_are (goal.at.returns-in-Refused-lengths c).After-check_lengths-lengths)))
 
 -- the lists have the lengths that m demands
 pub check_numbers-requires : goal.check_numbers-requires
 check_numbers-requires c =
-    let r = ranges_of_fine _ _ (right-ranges (goal.at.check_numbers-requires c).In_default) in
-    let l = lengths_of_fine _ _ _ _ (sym (lengths-are (goal.at.check_numbers-requires c).After-check_lengths-lengths) ∙ c.in_default-lengths.is) in
+    let r = ranges_of_fine _ _ (right_ranges (goal.at.check_numbers-requires c).In_default) in
+    let l = lengths_of_fine _ _ _ _
+    (sym (lengths_are (goal.at.check_numbers-requires c).After-check_lengths-lengths)
+    ∙ c.in_default-lengths.is) in
     omega arith
 
 -- the lengths pass: the numbers decide
@@ -65,6 +69,6 @@ pub returns : goal.returns
 unfolding write_verdict
 returns c =
     then_pass _ _ _ (fine_of_passed _ (omega arith, tt))
-    (then_pass _ _ _ (right-ranges (goal.at.returns c).In_default)
-    (then_pass _ _ _ (sym (lengths-are (goal.at.returns c).After-check_lengths-lengths) ∙ c.in_default-lengths.is)
+    (then_pass _ _ _ (right_ranges (goal.at.returns c).In_default)
+    (then_pass _ _ _ (sym (lengths_are (goal.at.returns c).After-check_lengths-lengths) ∙ c.in_default-lengths.is)
     c.check_numbers.ensures))

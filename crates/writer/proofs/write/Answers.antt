@@ -38,7 +38,8 @@ pub slice_bounds-put_sheet-end : goal.slice_bounds-put_sheet-end
 slice_bounds-put_sheet-end c = room (goal.at.slice_bounds-put_sheet-end c).After-bytes_of-n
 
 pub slice_bounds-put_sheet-end-2 : goal.slice_bounds-put_sheet-end-2
-slice_bounds-put_sheet-end-2 c = sym (length-take-le _ _ (room (goal.at.slice_bounds-put_sheet-end-2 c).After-bytes_of-n))
+slice_bounds-put_sheet-end-2 c =
+    sym (length-take-le _ _ (room (goal.at.slice_bounds-put_sheet-end-2 c).After-bytes_of-n))
 
 -- the first bytes are as many as the sheet has
 pub put_sheet-requires : goal.put_sheet-requires

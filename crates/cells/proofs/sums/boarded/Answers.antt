@@ -14,10 +14,10 @@ counted : (c : After-leaving-sum) →
     let n = boarded_in start.m start.sums.now start.from.0 c.loop-t.t in
     (c.loop-t.sum + c.leaving-sum.result ≡ n) × (n ≤ everyone)
 counted c =
-    let at-loop = c.loop-t in
-    let first = boarded_first c.args.m c.args.sums.now c.args.from.0 at-loop.t in (
-      omega (arith, c.leaving-sum.ensures.0, at-loop.invariant.2, first at-loop.invariant.1),
-      boarded_le _ _ c.requires.0 _ at-loop.t c.requires.1 (omega (arith, c.requires.2)) at-loop.invariant.1,
+    let at_loop = c.loop-t in
+    let first = boarded_first c.args.m c.args.sums.now c.args.from.0 at_loop.t in (
+      omega (arith, c.leaving-sum.ensures.0, at_loop.invariant.2, first at_loop.invariant.1),
+      boarded_le _ _ c.requires.0 _ at_loop.t c.requires.1 (omega (arith, c.requires.2)) at_loop.invariant.1,
     )
 
 -- nobody leaves after the last train
@@ -36,6 +36,6 @@ loop-t-preserved c =
 -- no train is left
 pub returns : goal.returns
 returns c =
-    let at-loop = c.loop-t in
-    let e : at-loop.t + 1 ≡ c.args.train.0 = omega arith in
-    at-loop.invariant.2 ∙ ap (boarded_in _ _ _) e
+    let at_loop = c.loop-t in
+    let e : at_loop.t + 1 ≡ c.args.train.0 = omega arith in
+    at_loop.invariant.2 ∙ ap (boarded_in _ _ _) e

@@ -13,14 +13,14 @@ loop-i-init c = (search rules, omega arith, omega arith, search rules, λ l a b.
 -- one train more
 pub loop-i-preserved : goal.loop-i-preserved
 loop-i-preserved c =
-    let at-loop = c.loop-i in
-    let inv = at-loop.invariant in
+    let at_loop = c.loop-i in
+    let inv = at_loop.invariant in
     let counted = rw c.leaves-from.ensures at c.boarded.ensures in (
       inv.0,
       omega arith,
       omega arith,
       simp length-set inv.3,
-      held_set at-loop.boarding c.index.result at-loop.i _ (omega arith) inv.1 _ 1 (at-loop.i + 1)
+      held_set at_loop.boarding c.index.result at_loop.i _ (omega arith) inv.1 _ 1 (at_loop.i + 1)
           (omega arith) (omega arith) counted (λ l a b n. inv.4 l a (omega arith)),
     )
 

@@ -1,3 +1,4 @@
+-- `sums::sum_column` meets its contract by the invariant beside this file.
 use mathlib.Core.Path.{ap, ◌∙◌}
 use Prim.Native.Nat.{◌≤◌}
 use native.Mathlib.Omega.{arith}
@@ -28,20 +29,26 @@ pair-sum-requires c =
 
 -- at most 64 numbers of at most 10,000
 pub overflow_add-sum : goal.overflow_add-sum
-overflow_add-sum c = omega (arith, c.loop-k.invariant.small, c.pair-sum.ensures.1, room (goal.at.overflow_add-sum c).In-loop-k)
+overflow_add-sum c =
+    omega (arith, c.loop-k.invariant.small, c.pair-sum.ensures.1, room (goal.at.overflow_add-sum c).In-loop-k)
 
 -- station and train are at most 64
 pub place_of_sum-at-requires : goal.place_of_sum-at-requires
 place_of_sum-at-requires c =
-    let some = c.loop-k-test.true in
-    (omega arith, omega (arith, c.loop-k.invariant.most, room (goal.at.place_of_sum-at-requires c).In-loop-k), c.requires.1, room (goal.at.place_of_sum-at-requires c).In-loop-k)
+    let some = c.loop-k-test.true in (
+      omega arith,
+      omega (arith, c.loop-k.invariant.most, room (goal.at.place_of_sum-at-requires c).In-loop-k),
+      c.requires.1,
+      room (goal.at.place_of_sum-at-requires c).In-loop-k,
+    )
 
 -- the sum of station k is that of the next station and one pair more
 pub loop-k-preserved : goal.loop-k-preserved
 loop-k-preserved c =
     let pair = c.pair-sum.ensures in
     let start = c.args in
-    column_next _ _ _ _ _ _ _ c.loop-k.invariant (omega (arith, c.loop-k-test.true)) (room (goal.at.loop-k-preserved c).In-loop-k)
+    column_next _ _ _ _ _ _ _ c.loop-k.invariant (omega (arith, c.loop-k-test.true))
+    (room (goal.at.loop-k-preserved c).In-loop-k)
     c.place_of_sum-at.ensures.0 c.place_of_sum-at.ensures.1
     (pair.0 ∙ ap (pair_in start.m start.passengers.now _) c.reaches-to.ensures) pair.1
 

@@ -1,3 +1,4 @@
+-- `sums::sum_columns` meets its contract by the invariant beside this file.
 use borrow.Author.Rules.{rules}
 use native.Mathlib.Omega.{arith}
 use Rattle.prepare.proofs.Holding.{sums_none, sums_fewer}

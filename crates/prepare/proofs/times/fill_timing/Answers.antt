@@ -1,3 +1,4 @@
+-- `times::fill_timing` meets its contract by the invariant beside this file.
 use borrow.Author.Rules.{rules}
 use native.Mathlib.Omega.{arith}
 use Rattle.prepare.specs.Preparing.{TrainGiven}

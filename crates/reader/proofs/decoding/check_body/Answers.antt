@@ -22,10 +22,12 @@ check_numbers-numbers-requires c = body_room _ _ _ c.requires
 -- the numbers are refused
 pub returns-in-Refused : goal.returns-in-Refused
 unfolding body_verdict
-returns-in-Refused c = then_stop _ _ c.in-Refused.is (numbers (goal.at.returns-in-Refused c).After-check_numbers-numbers)
+returns-in-Refused c =
+    then_stop _ _ c.in-Refused.is (numbers (goal.at.returns-in-Refused c).After-check_numbers-numbers)
 
 -- the numbers pass: the filling bits decide
 pub returns : goal.returns
 unfolding body_verdict
 returns c =
-    then_pass _ _ _ (sym (numbers (goal.at.returns c).After-check_numbers-numbers) ∙ c.in_default.is) c.check_filling.ensures
+    then_pass _ _ _
+    (sym (numbers (goal.at.returns c).After-check_numbers-numbers) ∙ c.in_default.is) c.check_filling.ensures

@@ -21,15 +21,19 @@ returns-in_default c = decoded_head_refused _ _ c.in_default.is c.read_head-head
 
 -- the head passed, and the lists are those that were lent
 pub read_columns-requires : goal.read_columns-requires
-read_columns-requires c =
-    (head_of_fine _ _ (passed (goal.at.read_columns-requires c).In-Accepted).0 (passed (goal.at.read_columns-requires c).In-Accepted).1, c.requires)
+read_columns-requires c = (
+  head_of_fine _ _ (passed (goal.at.read_columns-requires c).In-Accepted).0
+      (passed (goal.at.read_columns-requires c).In-Accepted).1,
+  c.requires,
+)
 
 -- the columns hold the sheet's numbers
 pub check_body-body-requires : goal.check_body-body-requires
 check_body-body-requires c =
     let read = c.read_columns.ensures in
     record {
-      head = head_of_fine _ _ (passed (goal.at.check_body-body-requires c).In-Accepted).0 (passed (goal.at.check_body-body-requires c).In-Accepted).1;
+      head = head_of_fine _ _ (passed (goal.at.check_body-body-requires c).In-Accepted).0
+          (passed (goal.at.check_body-body-requires c).In-Accepted).1;
       lengths = columns_lengths _ _ _ read c.requires;
       numbers = columns_numbers _ _ _ read _ _ (passed (goal.at.check_body-body-requires c).In-Accepted).1 refl;
     }

@@ -1,3 +1,4 @@
+-- `read_column` meets its contract by the invariant beside this file.
 use mathlib.Core.Path.{◌≡◌}
 use Prim.Native.Nat.{◌+◌, ◌*◌}
 use native.Mathlib.Omega.{arith}
@@ -33,9 +34,9 @@ bounds-list-k c =
 pub loop-k-preserved : goal.loop-k-preserved
 unfolding entry
 loop-k-preserved c =
-    let at-loop = c.loop-k in
+    let at_loop = c.loop-k in
     let room = c.requires.room in
-    (omega arith, filled_next _ _ at-loop.invariant.1 (omega (arith, at-loop.invariant.1.long)) c.field.ensures)
+    (omega arith, filled_next _ _ at_loop.invariant.1 (omega (arith, at_loop.invariant.1.long)) c.field.ensures)
 
 pub shape_of-list : goal.shape_of-list
 shape_of-list c = c.loop-k.invariant.1.long

@@ -10,9 +10,9 @@ use Rattle.reader.proofs.Columns.{train_room, passenger_room}
 use Rattle.reader.proofs.decoding.read_columns.Goals as goal
 
 -- a list filled from a column that is c, with n places
-filled-column : (s : List ℕ) {old new : List ℕ} {n n' : ℕ} {c c' : Column} → n ≡ n' → c ≡ c'
+filled_column : (s : List ℕ) {old new : List ℕ} {n n' : ℕ} {c c' : Column} → n ≡ n' → c ≡ c'
     → Filled 0 (entry s c) n old new → Filled 0 (entry s c') n' old new
-filled-column s p q h = rw (p, q) at h
+filled_column s p q h = rw (p, q) at h
 
 -- the departures: 12 bits from bit 18
 pub read_column-requires : goal.read_column-requires
@@ -47,11 +47,11 @@ pub returns : goal.returns
 returns c =
     let trains = c.requires.0.trains in
     record {
-      departures = filled-column _ trains c.departures.ensures c.read_column.ensures;
-      driving = filled-column _ trains c.driving.ensures c.read_column-2.ensures;
-      delays = filled-column _ trains c.delays.ensures c.read_column-3.ensures;
+      departures = filled_column _ trains c.departures.ensures c.read_column.ensures;
+      driving = filled_column _ trains c.driving.ensures c.read_column-2.ensures;
+      delays = filled_column _ trains c.delays.ensures c.read_column-3.ensures;
       passengers =
-          filled-column _ (c.pairs_of.ensures ∙ ap pairs_of trains)
+          filled_column _ (c.pairs_of.ensures ∙ ap pairs_of trains)
           (c.passengers.ensures ∙ ap passenger_column trains)
           c.read_column-4.ensures;
     }

@@ -44,7 +44,11 @@ returns-in-Refused c =
 
 pub bytes_of-n-requires : goal.bytes_of-n-requires
 bytes_of-n-requires c =
-    omega (arith, (ranges_of_fine _ _ (passed (goal.at.bytes_of-n-requires c).In_default)).trains_most, c.field-m.ensures)
+    omega (
+      arith,
+      (ranges_of_fine _ _ (passed (goal.at.bytes_of-n-requires c).In_default)).trains_most,
+      c.field-m.ensures,
+    )
 
 -- the sheet is shorter than m demands
 pub returns-then-sheet-n : goal.returns-then-sheet-n

@@ -1,3 +1,4 @@
+-- `checks::check_passengers` meets its contract by the invariant beside this file.
 use mathlib.Core.Path.{refl}
 use native.Mathlib.Omega.{arith}
 use Rattle.terms.proofs.Checks.{search_first, search_next, search_stop, search_end, hit, miss, no_more}
@@ -10,7 +11,8 @@ loop-f-init c = search_first _ _ _
 -- a field was refused: it is the first
 pub returns-then-passengers-f-gt10000 : goal.returns-then-passengers-f-gt10000
 unfolding passengers_verdict
-returns-then-passengers-f-gt10000 c = search_stop _ _ _ c.loop-f.invariant (omega arith) refl (hit _ _ _ _ (omega arith))
+returns-then-passengers-f-gt10000 c =
+    search_stop _ _ _ c.loop-f.invariant (omega arith) refl (hit _ _ _ _ (omega arith))
 
 -- it passed: the fields after it are still to be checked
 pub loop-f-preserved : goal.loop-f-preserved

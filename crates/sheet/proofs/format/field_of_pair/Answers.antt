@@ -10,11 +10,11 @@ use Rattle.sheet.proofs.format.field_of_pair.Goals as goal
 use Rattle.sheet.proofs.format.field_of_pair.Goals.{After-index-before}
 
 -- the product is twice the fields of the stations before
-before-fields : (c : After-index-before) →
+before_fields : (c : After-index-before) →
     let m = c.args.m in
     let k = c.index-before.result in
     (k * (2 * m + 1 - k) ≡ 2 * fields_up_to m k) × (fields_up_to m k ≤ 2080) × (k ≤ m)
-before-fields c =
+before_fields c =
     let m = c.args.m in
     let k = c.index-before.result in
     let pair = c.requires.1 in
@@ -25,12 +25,12 @@ before-fields c =
     )
 
 pub overflow_mul-result-2 : goal.overflow_mul-result-2
-overflow_mul-result-2 c = omega (arith, before-fields (goal.at.overflow_mul-result-2 c).After-index-before)
+overflow_mul-result-2 c = omega (arith, before_fields (goal.at.overflow_mul-result-2 c).After-index-before)
 
 -- the fields of 64 trains are few
 pub overflow_add-result-2 : goal.overflow_add-result-2
 overflow_add-result-2 c =
-    omega (arith, before-fields (goal.at.overflow_add-result-2 c).After-index-before, c.requires.1.most, c.requires.0)
+    omega (arith, before_fields (goal.at.overflow_add-result-2 c).After-index-before, c.requires.1.most, c.requires.0)
 
 -- half the product is what the earlier stations have
 pub returns : goal.returns
@@ -39,7 +39,8 @@ returns c =
     let k = c.index-before.result in
     let i = c.args.from.0 in
     let j = c.args.to.0 in
-    let e = field_closed m k i j c.index-before.ensures (omega (arith, (before-fields (goal.at.returns c).After-index-before).2)) in (
+    let e = field_closed m k i j c.index-before.ensures
+    (omega (arith, (before_fields (goal.at.returns c).After-index-before).2)) in (
       e,
       le_trans (pair_has_field m i j c.requires.1).0 (le_of_eq (sym e)),
       le_trans (le_of_eq e) (pair_has_field m i j c.requires.1).1,

@@ -1,3 +1,4 @@
+-- `putting::put_column` meets its contract by the invariant beside this file.
 use mathlib.Core.Path.{◌≡◌}
 use Prim.Native.Nat.{◌+◌, ◌*◌}
 use native.Mathlib.Omega.{arith}
@@ -13,9 +14,9 @@ reach : (c : After-put-arg-1) →
     let k = c.loop-k.k in
     Within c.loop-k.sheet (start.column.first + start.column.step * k) start.column.width
 reach c =
-    let at-loop = c.loop-k in
-    within_same (c.requires.within at-loop.k c.loop-k-test.true)
-    at-loop.invariant.1.long
+    let at_loop = c.loop-k in
+    within_same (c.requires.within at_loop.k c.loop-k-test.true)
+    at_loop.invariant.1.long
 
 pub loop-k-init : goal.loop-k-init
 loop-k-init c = (omega arith, column_none _ _ _)

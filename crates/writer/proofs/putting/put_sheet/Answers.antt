@@ -23,4 +23,4 @@ returns c =
     sheet_put _ _ _ _ _ _ c.requires c.put_head.ensures c.put_times.ensures
     (rw c.passengers.ensures at c.put_column.ensures)
     c.put_filling.ensures
-    (λ i. (c.slice_known-5-1.given i).fits)
+    (λ i. (c.type_inv.sheet i).fits)
