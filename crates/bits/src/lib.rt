@@ -1,6 +1,7 @@
 // A field: the number held by `width` bits from bit `at` of a list of bytes, most significant
 // bit first. Read and put, proved once over the width.
 #![tactic(auto)]
+
 ghost use Rattle.std.specs.Prelude.{◌≡◌, ◌*◌, ◌^◌, ◌<◌, length};
 ghost use Rattle.bits.specs.Field.{bit_at, field_of, Within, BitPut, Put};
 

@@ -4,7 +4,7 @@
 use mathlib.Core.Path.{◌≡◌, refl, ap}
 use Prim.Native.Nat.{ℕ, ◌+◌, ◌-◌, ◌≤◌, ◌<◌}
 use native.Mathlib.Omega.{arith}
-use Rattle.lists.specs.Choice.{if◌then◌else◌}
+use Rattle.std.specs.Prelude.{if◌then◌else◌}
 use Rattle.line.specs.Line.{Line, line_from}
 use Rattle.line.specs.Policy.{Policy, arrival, departure, Day, dropped, counts}
 use Rattle.line.specs.Alike.{LinesAlike}

@@ -16,12 +16,17 @@ use Rattle.line.proofs.Along.{excess_on_start}
 
 module _ (x y : ℕ) where
   lesser_le_keep : (e : ℕ) → lesser e x y ≤ x
-  lesser_le_keep zero = le_refl x
+  lesser_le_keep zero = omega arith
   lesser_le_keep (suc e) = omega arith
 
   lesser_le_go : (e : ℕ) → 0 < e → lesser e x y ≤ y
   lesser_le_go zero l = absurd (omega arith)
   lesser_le_go (suc e) l = omega arith
+
+  -- where keep costs no more it is preferred, also when the two are equal
+  pub prefer_of_keep_le : (e : ℕ) → x ≤ y → prefer e x y ≡ Keep
+  prefer_of_keep_le zero b = refl
+  prefer_of_keep_le (suc e) b = below_no Go Keep b
 
   prefer_keep : (e : ℕ) → prefer e x y ≡ Keep → lesser e x y ≡ x
   prefer_keep zero h = refl
@@ -49,10 +54,6 @@ module _ (x y : ℕ) where
   pub prefer_of_go_less : (e : ℕ) → 0 < e → y < x → prefer e x y ≡ Go
   prefer_of_go_less zero a b = absurd (omega arith)
   prefer_of_go_less (suc e) a b = below_yes Go Keep b
-
-  pub prefer_of_keep_le : (e : ℕ) → x ≤ y → prefer e x y ≡ Keep
-  prefer_of_keep_le zero b = refl
-  prefer_of_keep_le (suc e) b = below_no Go Keep b
 
 module _ (B : Book) (c : Table) (k l : ℕ) where
   pub cell_by_le_keep : cell_by B c k l ≤ keep_cost B c k l

@@ -4,7 +4,6 @@ use mathlib.Core.Path.{◌≡◌, refl, ap}
 use mathlib.Core.Logic.{◌⊎◌, inl, inr}
 use mathlib.Core.Bool.{true, false}
 use Prim.Native.Nat.{ℕ, zero, suc, ◌+◌, ◌-◌, ◌≤◌, ◌<◌}
-use native.Mathlib.Nat.{zero-sub}
 use native.Mathlib.Omega.{arith}
 use Rattle.lists.proofs.Order.{zero_not_one}
 use Rattle.line.specs.Line.{Running}
@@ -21,7 +20,7 @@ module _ (R : Running) (p : Policy) where
   -- Train 1 departs with delay 0: whatever the slack and the policy.
   pub first_on_time : departure R p 1 ≡ 0
   unfolding departure excess arrival
-  first_on_time = either (p 1) _ (zero-sub (R.slack 1))
+  first_on_time = either (p 1) _ (omega arith)
     where
       either : (b : Decision) (e : ℕ) → e ≡ 0 → departs b e ≡ 0
       either Keep e h = h

@@ -7,7 +7,7 @@ use mathlib.Core.Logic.{inl, inr}
 use Prim.Native.Nat.{ℕ, ◌+◌, ◌≤◌, ◌<◌}
 use native.Mathlib.Nat.{le_refl, le_trans, le_of_eq, eq-or-lt_of_le}
 use native.Mathlib.Omega.{arith}
-use Rattle.lists.specs.Choice.{if◌then◌else◌}
+use Rattle.std.specs.Prelude.{if◌then◌else◌}
 use Rattle.lists.proofs.Choice.{if_no, true_or_false}
 use Rattle.line.specs.Line.{Running, Line}
 use Rattle.line.specs.Policy.{Keep, Policy, departure, missed, Day, day_of, pairs_total}

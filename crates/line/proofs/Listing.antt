@@ -1,7 +1,7 @@
 -- Listing all policies finds the plan, on any line. Where all trains are decided there is nothing to choose. With train
 -- i still to decide, the plan is the better of the two that keep and that go there, and the one that keeps when equal.
 --   PlanFrom L i p      of the policies that decide as p does before train i, p is the plan
---   first_least L n ds   of the decisions that begin with ds and go on for n trains, the first of least total
+--   first_least L n ds  of the decisions that begin with ds and go on for n trains, the first of least total
 -- Assumes nothing.
 use mathlib.Core.Path.{◌≡◌, refl, sym, subst, ◌∙◌}
 use mathlib.Core.List.{List, [], ◌∷◌, ◌++◌}

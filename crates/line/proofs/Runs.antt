@@ -9,7 +9,7 @@ use mathlib.Core.Logic.{inl, inr}
 use Prim.Native.Nat.{ℕ, ◌+◌, ◌*◌, ◌≤◌}
 use native.Mathlib.Nat.{le_refl, mul_comm, add-zero}
 use native.Mathlib.Omega.{arith}
-use Rattle.lists.specs.Choice.{if◌then◌else◌}
+use Rattle.std.specs.Prelude.{if◌then◌else◌}
 use Rattle.lists.proofs.Choice.{if_yes, if_no, true_or_false}
 use Rattle.line.specs.Sum.{sum◌from◌to◌}
 use Rattle.line.specs.Line.{Line}

@@ -8,7 +8,7 @@ use mathlib.Core.Logic.{inl, inr}
 use Prim.Native.Nat.{ℕ, zero, suc, ◌+◌, ◌-◌, ◌≤◌, ◌<◌, max}
 use native.Mathlib.Nat.{le_refl, eq-or-lt_of_le}
 use native.Mathlib.Omega.{arith}
-use Rattle.lists.specs.Choice.{if◌then◌else◌}
+use Rattle.std.specs.Prelude.{if◌then◌else◌}
 use Rattle.lists.proofs.Choice.{if_yes, if_no, true_or_false}
 use Rattle.lists.proofs.Induction.{up}
 use Rattle.line.specs.Policy.{Day}

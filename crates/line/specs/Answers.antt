@@ -1,7 +1,7 @@
 -- What is printed for a case of document 01, "Sums to check by hand", and what it says of a line, in the words of
 -- document 01's definitions alone.
 --   Rows, CaseAnswer          rows of cells in use; decisions, arrival delays, a total and rows
---   policy_from, table_from     decisions as a policy, rows as a table
+--   policy_from, table_from   decisions as a policy, rows as a table
 --   PolicyAnswer L x          delays and total of x are what comes of following its decisions
 --   PlanAnswer L x            besides, its decisions are the plan and its rows are what document 01 says that cells are
 --   WorkedAnswer L t rows x   its rows are the rows given with rows 1 to t worked anew by the rule, and the rest of it

@@ -1,17 +1,17 @@
 -- The working cells. Document 01, "The working cells": what a cell means, how it is worked, and what is read off.
 -- Cell (k, l), 1 ≤ k ≤ l ≤ m, is c k l of a table c. The run from k begins with train k departing with delay 0 and
 -- maintains every transfer after it.
---   Table              numbers by row and column
---   IsCell L k l n     n is what document 01 says that cell (k, l) is
---   leaving, aboard    the two sums of passengers by which a cell is worked
---   Book, book_of L     what cells are worked from: a line with these sums in the place of its passengers
---   excess_on R k l     the excess at station l on the run from k; 0 at l = k, where the run begins
---   arrival_on R k l    train l's arrival delay on the run from k
+--   Table                numbers by row and column
+--   IsCell L k l n       n is what document 01 says that cell (k, l) is
+--   leaving, aboard      the two sums of passengers by which a cell is worked
+--   Book, book_of L      what cells are worked from: a line with these sums in the place of its passengers
+--   excess_on R k l      the excess at station l on the run from k; 0 at l = k, where the run begins
+--   arrival_on R k l     train l's arrival delay on the run from k
 --   keep_cost, go_cost   the two choices at cell (k, l)
---   cell_by B c k l     what cell (k, l) has to be, by the cells that it rests on
---   Worked B t c d     the table d has rows 1 to t worked anew and the rows after t as they stand in c
---   choice B c k l     the decision at station l on the run from k, by the cells
---   decide B c         the policy that is read off the cells
+--   cell_by B c k l      what cell (k, l) has to be, by the cells that it rests on
+--   Worked B t c d       the table d has rows 1 to t worked anew and the rows after t as they stand in c
+--   choice B c k l       the decision at station l on the run from k, by the cells
+--   decide B c           the policy that is read off the cells
 -- Assumes nothing.
 use Rattle.std.specs.Prelude.{ℕ, zero, suc, ◌+◌, ◌-◌, ◌*◌, ◌≤◌, ◌<◌, min, ◌≡◌, false}
 use Rattle.lists.specs.Choice.{if_below}

@@ -1,8 +1,8 @@
 -- A line. Document 01, "The line and its numbers".
 -- Trains and stations are numbered apart, from 1: train i leaves station i and reaches station i + 1. Times and delays
 -- are whole minutes, passengers whole persons.
---   Running    how the trains of a line run
---   Line       the trains, how they run, what a missed connection costs, and the passengers
+--   Running     how the trains of a line run
+--   Line        the trains, how they run, what a missed connection costs, and the passengers
 --   line_from   the line of document 01, by m, T, planned departures, driving times, source delays and passengers
 -- Assumes nothing.
 use Rattle.std.specs.Prelude.{ℕ, ◌+◌, ◌-◌}

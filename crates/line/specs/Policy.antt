@@ -7,11 +7,10 @@
 --   Day                   the arrival delays and the missed transfers of a day, under a policy or otherwise
 --   dropped D i j         is a transfer at any station strictly between i and j missed
 --   counts L D i j        the minutes that each passenger of the pair (i, j) counts
---   pairs_total L D k l    the total of the pairs that board at station k or later and leave at a station after l
+--   pairs_total L D k l   the total of the pairs that board at station k or later and leave at a station after l
 --   total L p             the total of all pairs
 -- Assumes nothing.
-use Rattle.std.specs.Prelude.{ℕ, zero, suc, ◌+◌, ◌-◌, ◌*◌, Bool, true, false}
-use Rattle.lists.specs.Choice.{if◌then◌else◌}
+use Rattle.std.specs.Prelude.{ℕ, zero, suc, ◌+◌, ◌-◌, ◌*◌, Bool, true, false, if◌then◌else◌}
 use Rattle.lists.specs.Run.{run_of}
 use Rattle.line.specs.Sum.{sum◌from◌to◌}
 use Rattle.line.specs.Line.{Running, Line}

@@ -5,7 +5,8 @@ use Prim.Native.Nat.{ℕ, ◌≤◌, ◌<◌}
 use borrow.Author.Tests.{lt-ltb, le-ltb, eq-eqb, ne_eqb}
 use mathlib.Core.Bool.{Bool, true, false}
 use mathlib.Core.Logic.{◌⊎◌, inl, inr}
-use Rattle.lists.specs.Choice.{if◌then◌else◌, if_below, if_same}
+use Rattle.std.specs.Prelude.{if◌then◌else◌}
+use Rattle.lists.specs.Choice.{if_below, if_same}
 
 pub true_or_false : (b : Bool) → (b ≡ true) ⊎ (b ≡ false)
 true_or_false true = inl refl

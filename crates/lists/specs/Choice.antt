@@ -1,11 +1,6 @@
 -- One of two values, by a test.
 -- Assumes nothing.
-use Rattle.std.specs.Prelude.{ℕ, Bool, true, false, ltb, eqb}
-
-infix 10 if◌then◌else◌
-abbrev pub if◌then◌else◌ : {A : Type 0} → Bool → A → A → A
-if true then x else y = x
-if false then x else y = y
+use Rattle.std.specs.Prelude.{ℕ, ltb, eqb, if◌then◌else◌}
 
 -- x where a is less than b, else y
 unfoldable pub if_below : {A : Type 0} → ℕ → ℕ → A → A → A

@@ -1,6 +1,7 @@
 // Lists that a loop fills place by place. The laws in proofs/ serve every loop of the project, at
 // any element.
 #![tactic(auto)]
+
 ghost use Rattle.std.specs.Prelude.{◌≡◌, length, replicate};
 
 // Every byte of `list` becomes `value`.
@@ -26,6 +27,7 @@ pub fn fill_u32(list: &mut [u32], value: u32)
 }
 
 // `list` becomes `from`, which is as long.
+#[tactic(auto, using(crate::proofs::Fill::filled_all))]
 pub fn copy_u32(list: &mut [u32], from: &[u32])
     requires { length from.now ≡ length list.old }
     ensures { list.new ≡ from.now }

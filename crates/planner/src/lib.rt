@@ -6,7 +6,7 @@ mod checking;
 mod settling;
 
 ghost use Rattle.std.specs.Prelude.{◌≡◌, ◌≤◌, length, replicate, set};
-ghost use Rattle.lists.specs.Choice.{if◌then◌else◌};
+ghost use Rattle.std.specs.Prelude.{if◌then◌else◌};
 ghost use Rattle.terms.specs.Refusal.{blanks_of};
 ghost use Rattle.sheet.specs.Accepted.{DelayReplaced};
 ghost use Rattle.cells.specs.Timing.{timing_count, place_of_source};

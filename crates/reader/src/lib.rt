@@ -2,6 +2,7 @@
 // `read` has no `requires`: any bytes and any lists get an answer. `decoding::decode`, from which
 // planning and reporting start too, asks for lists of the right lengths.
 #![tactic(auto)]
+
 pub mod decoding;
 
 ghost use Rattle.std.specs.Prelude.{◌≡◌};
@@ -16,7 +17,7 @@ use sheet::checks::check_lengths;
 use terms::{ListFault, Refusal, Verdict};
 
 // What read answers, and what a sheet that is decoded or prepared answers: m and T, or why not.
-#[derive(Drop)]
+#[derive(Clone, Copy)]
 pub enum Reading {
     Accepted(u32, u32),
     Refused(Refusal),

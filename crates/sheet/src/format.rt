@@ -17,7 +17,7 @@ pub const PERIOD_WIDTH: usize = 11;
 
 // Fields of one width at equal distances: `width` bits from bit `first`, and again every `step`
 // bits.
-#[derive(Drop)]
+#[derive(Clone, Copy)]
 pub struct Column {
     pub first: usize,
     pub step: usize,

@@ -1,15 +1,16 @@
 // The vocabulary: trains and stations, numbered apart; the refusals by name; what a check finds and
 // what an operation answers. No other crate knows the number or the place of a refusal.
 #![tactic(auto)]
+
 ghost use Rattle.std.specs.Prelude.{◌≡◌, ◌+◌, ◌-◌, ◌≤◌};
 ghost use Rattle.terms.specs.Refusal.{number_of, place_of, blanks_of};
 ghost use Rattle.terms.specs.Answer.{answer_number, answer_place, answer_carries};
 
 // Train i leaves station i and reaches station i + 1.
-#[derive(Drop)]
+#[derive(Clone, Copy)]
 pub struct Train(pub u32);
 
-#[derive(Drop)]
+#[derive(Clone, Copy)]
 pub struct Station(pub u32);
 
 impl Train {
@@ -55,7 +56,7 @@ impl Station {
 }
 
 // What is wrong with a lent list.
-#[derive(Drop)]
+#[derive(Clone, Copy)]
 pub enum ListFault {
     // a buffer has another length than stated
     BufferLength,
@@ -64,7 +65,7 @@ pub enum ListFault {
 }
 
 // What is wrong with m, T or the length of a sheet.
-#[derive(Drop)]
+#[derive(Clone, Copy)]
 pub enum HeadFault {
     // a sheet under 3 bytes: too short for m and T
     NoHead,
@@ -79,7 +80,7 @@ pub enum HeadFault {
 }
 
 // What is wrong with the numbers of a train.
-#[derive(Drop)]
+#[derive(Clone, Copy)]
 pub enum TrainFault {
     // departure over 2,879
     Departure,
@@ -92,7 +93,7 @@ pub enum TrainFault {
 }
 
 // What is wrong with a report or with the cells that it finds.
-#[derive(Drop)]
+#[derive(Clone, Copy)]
 pub enum ReportFault {
     // train is 0 or over m
     NoSuchTrain,
@@ -105,7 +106,7 @@ pub enum ReportFault {
 
 // Why an input is refused: a fault and, where it has one, its place. In groups, because an enum of
 // many variants is past what is proved unaided.
-#[derive(Drop)]
+#[derive(Clone, Copy)]
 pub enum Refusal {
     OfList(ListFault),
     OfHead(HeadFault),
@@ -185,14 +186,14 @@ impl Refusal {
 }
 
 // What a check finds.
-#[derive(Drop)]
+#[derive(Clone, Copy)]
 pub enum Verdict {
     Fine,
     Refused(Refusal),
 }
 
 // What write, plan and report answer: the one number that an accepted call brings, or why not.
-#[derive(Drop)]
+#[derive(Clone, Copy)]
 pub enum Answer {
     Accepted(u64),
     Refused(Refusal),

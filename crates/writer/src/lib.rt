@@ -1,6 +1,7 @@
 // Write: m, T and four lists into a sheet, refused by number.
 // `write` has no `requires`: any numbers, any lists and any buffer get an answer.
 #![tactic(auto)]
+
 mod putting;
 
 ghost use Rattle.std.specs.Prelude.{◌≡◌};

@@ -1,0 +1,57 @@
+-- `read_columns` meets its contract: every field lies within the sheet, and each list is filled with its column.
+use mathlib.Core.Path.{◌≡◌, ap, ◌∙◌}
+use mathlib.Core.List.{List}
+use Prim.Native.Nat.{ℕ}
+use lib.Dec.{lit≤}
+use Rattle.lists.specs.Filled.{Filled}
+use Rattle.sheet.specs.declared.format.Column.{Column}
+use Rattle.sheet.specs.Format.{entry, passenger_column, pairs_of}
+use Rattle.reader.proofs.Columns.{train_room, passenger_room}
+use Rattle.reader.proofs.decoding.read_columns.Goals as goal
+
+-- a list filled from a column that is c, with n places
+filled-column : (s : List ℕ) {old new : List ℕ} {n n' : ℕ} {c c' : Column} → n ≡ n' → c ≡ c'
+    → Filled 0 (entry s c) n old new → Filled 0 (entry s c') n' old new
+filled-column s p q h = rw (p, q) at h
+
+-- the departures: 12 bits from bit 18
+pub read_column-requires : goal.read_column-requires
+read_column-requires c =
+    rw c.departures.ensures
+    (train_room _ _ c.requires.0 18 12 _ (lit≤ tt) (lit≤ tt) c.requires.1.departures)
+
+-- the driving times: 10 bits from bit 30
+pub read_column-requires-2 : goal.read_column-requires-2
+read_column-requires-2 c =
+    rw c.driving.ensures
+    (train_room _ _ c.requires.0 30 10 _ (lit≤ tt) (lit≤ tt) c.requires.1.driving)
+
+-- the delays: 11 bits from bit 40
+pub read_column-requires-3 : goal.read_column-requires-3
+read_column-requires-3 c =
+    rw c.delays.ensures
+    (train_room _ _ c.requires.0 40 11 _ (lit≤ tt) (lit≤ tt) c.requires.1.delays)
+
+pub pairs_of-requires : goal.pairs_of-requires
+pairs_of-requires c =
+    c.requires.0.most
+
+-- the passengers: 14 bits each, behind the trains
+pub read_column-requires-4 : goal.read_column-requires-4
+read_column-requires-4 c =
+    rw (c.passengers.ensures, c.pairs_of.ensures)
+    (passenger_room _ _ c.requires.0 _ c.requires.1.passengers)
+
+-- column by column, what was read is what the sheet has
+pub returns : goal.returns
+returns c =
+    let trains = c.requires.0.trains in
+    record {
+      departures = filled-column _ trains c.departures.ensures c.read_column.ensures;
+      driving = filled-column _ trains c.driving.ensures c.read_column-2.ensures;
+      delays = filled-column _ trains c.delays.ensures c.read_column-3.ensures;
+      passengers =
+          filled-column _ (c.pairs_of.ensures ∙ ap pairs_of trains)
+          (c.passengers.ensures ∙ ap passenger_column trains)
+          c.read_column-4.ensures;
+    }

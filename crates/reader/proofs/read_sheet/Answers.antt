@@ -1,0 +1,17 @@
+-- `read_sheet` meets its contract: a refused sheet changes nothing, an accepted one is copied.
+use Rattle.sheet.specs.Numbers.{lists}
+use Rattle.reader.proofs.Stored.{read_of_refused, read_of_accepted}
+use Rattle.reader.proofs.read_sheet.Goals as goal
+
+-- the sheet is refused
+pub returns-in-Refused : goal.returns-in-Refused
+returns-in-Refused c =
+    read_of_refused _ _ c.requires c.decode-answer.ensures.answer c.in-Refused.is
+
+-- the sheet is accepted
+pub returns : goal.returns
+returns c =
+    read_of_accepted _ _ c.requires _ _ c.decode-answer.ensures c.in_default.is
+    (λ i.
+    lists (c.copy_u32.ensures i) (c.copy_u32-2.ensures i) (c.copy_u32-3.ensures i)
+    (c.copy_u32-4.ensures i))

@@ -1,0 +1,46 @@
+-- `format::field_of_pair` meets its contract: half of a product, which is small.
+use mathlib.Core.Path.{◌≡◌, sym}
+use native.Mathlib.Nat.{le_trans, le_of_eq}
+use native.Mathlib.Omega.{arith}
+use Prim.Native.Nat.{◌+◌, ◌-◌, ◌*◌, ◌≤◌}
+use Rattle.sheet.specs.Pairs.{fields_up_to}
+use Rattle.sheet.proofs.Lengths.{pairs_le}
+use Rattle.sheet.proofs.Pairs.{fields_closed, field_closed, fields_mono, fields_all, pair_has_field}
+use Rattle.sheet.proofs.format.field_of_pair.Goals as goal
+use Rattle.sheet.proofs.format.field_of_pair.Goals.{After-index-before}
+
+-- the product is twice the fields of the stations before
+before-fields : (c : After-index-before) →
+    let m = c.args.m in
+    let k = c.index-before.result in
+    (k * (2 * m + 1 - k) ≡ 2 * fields_up_to m k) × (fields_up_to m k ≤ 2080) × (k ≤ m)
+before-fields c =
+    let m = c.args.m in
+    let k = c.index-before.result in
+    let pair = c.requires.1 in
+    let inside : k ≤ m = omega (arith, c.index-before.ensures, pair.apart, pair.most) in (
+      fields_closed m k inside,
+      omega (arith, fields_mono m k m inside, fields_all m, pairs_le m c.requires.0),
+      inside,
+    )
+
+pub overflow_mul-result-2 : goal.overflow_mul-result-2
+overflow_mul-result-2 c = omega (arith, before-fields (goal.at.overflow_mul-result-2 c).After-index-before)
+
+-- the fields of 64 trains are few
+pub overflow_add-result-2 : goal.overflow_add-result-2
+overflow_add-result-2 c =
+    omega (arith, before-fields (goal.at.overflow_add-result-2 c).After-index-before, c.requires.1.most, c.requires.0)
+
+-- half the product is what the earlier stations have
+pub returns : goal.returns
+returns c =
+    let m = c.args.m in
+    let k = c.index-before.result in
+    let i = c.args.from.0 in
+    let j = c.args.to.0 in
+    let e = field_closed m k i j c.index-before.ensures (omega (arith, (before-fields (goal.at.returns c).After-index-before).2)) in (
+      e,
+      le_trans (pair_has_field m i j c.requires.1).0 (le_of_eq (sym e)),
+      le_trans (le_of_eq e) (pair_has_field m i j c.requires.1).1,
+    )

@@ -1,0 +1,56 @@
+-- `writer::write` meets its contract: all checks, then the sheet into the first bytes.
+use mathlib.Core.Path.{◌≡◌, sym, ◌∙◌}
+use Prim.Native.Nat.{◌≤◌}
+use native.Mathlib.Omega.{arith}
+use lib.ListN.{length}
+use lib.Seq.{length-take-le}
+use Rattle.terms.specs.declared.Verdict.TheVariants.{Fine}
+use Rattle.sheet.specs.Numbers.{lists}
+use Rattle.sheet.proofs.Lengths.{bytes_le}
+use Rattle.writer.specs.Write.{given, write_verdict}
+use Rattle.writer.proofs.Facts.{accepts_of_fine}
+use Rattle.writer.proofs.Outcome.{write_refused, write_accepted}
+use Rattle.writer.proofs.write.Goals as goal
+use Rattle.writer.proofs.write.Goals.{After-bytes_of-n, In_default}
+
+-- all checks passed
+fine : (c : In_default) →
+    let a = c.args in
+    write_verdict (length a.sheet.now)
+    (given a.m a.period (lists a.departures.now a.driving.now a.delays.now a.passengers.now))
+    ≡ Fine
+fine c = sym c.check_write-verdict.ensures ∙ c.in_default.is
+
+-- the sheet fits the buffer
+room : (c : After-bytes_of-n) → c.bytes_of-n.result ≤ length c.args.sheet.now
+room c =
+    let accepts = accepts_of_fine _ _ (sym c.check_write-verdict.ensures ∙ c.in_default.is) in
+    omega (arith, c.bytes_of-n.ensures, accepts.room_is, bytes_le _ accepts.range.trains_most)
+
+-- refused
+pub returns-in-Refused : goal.returns-in-Refused
+returns-in-Refused c = write_refused _ _ (sym c.in-Refused.is ∙ c.check_write-verdict.ensures)
+
+pub bytes_of-n-requires : goal.bytes_of-n-requires
+bytes_of-n-requires c = (accepts_of_fine _ _ (fine (goal.at.bytes_of-n-requires c).In_default)).range.trains_most
+
+pub slice_bounds-put_sheet-end : goal.slice_bounds-put_sheet-end
+slice_bounds-put_sheet-end c = room (goal.at.slice_bounds-put_sheet-end c).After-bytes_of-n
+
+pub slice_bounds-put_sheet-end-2 : goal.slice_bounds-put_sheet-end-2
+slice_bounds-put_sheet-end-2 c = sym (length-take-le _ _ (room (goal.at.slice_bounds-put_sheet-end-2 c).After-bytes_of-n))
+
+-- the first bytes are as many as the sheet has
+pub put_sheet-requires : goal.put_sheet-requires
+put_sheet-requires c =
+    let accepts = accepts_of_fine _ _ (fine (goal.at.put_sheet-requires c).In_default) in
+    record {
+      long = length-take-le _ _ (room (goal.at.put_sheet-requires c).After-bytes_of-n) ∙ c.bytes_of-n.ensures;
+      lengths = accepts.lengths;
+      range = accepts.range;
+    }
+
+-- accepted: the sheet stands first, the rest as it was
+pub returns : goal.returns
+returns c =
+    write_accepted _ _ c.bytes_of-n.ensures (sym (fine (goal.at.returns c).In_default)) c.put_sheet.ensures
