@@ -3,6 +3,7 @@
 // 01, "Sums to check by hand". A sheet that is longer than any line has is read no further than
 // 3,908 bytes, which is enough to refuse it.
 #![tactic(auto)]
+
 ghost use Rattle.std.specs.Prelude.{◌≤◌, length, IfOk};
 
 use bits::field;
@@ -51,12 +52,7 @@ fn print_decision<W: Write>(out: &mut W, train: Train, decision: u8) -> io::Resu
     }
 }
 
-fn print_train<W: Write>(
-    out: &mut W,
-    train: Train,
-    decision: u8,
-    delay: u32,
-) -> io::Result<()> {
+fn print_train<W: Write>(out: &mut W, train: Train, decision: u8, delay: u32) -> io::Result<()> {
     say::number(out, train.0 as u64)?;
     print_decision(out, train, decision)?;
     say::next(out, delay as u64)?;

@@ -2,6 +2,7 @@
 // they must print, stdout. tests/plan_cases.py makes both, from what document 01 prints and, where
 // it prints nothing, from the independent reading in tests/plans.py.
 #![tactic(auto)]
+
 use std::io;
 
 fn main(rt: HostRuntime) -> io::Result<()> {

@@ -3,6 +3,7 @@
 // run of several steps on one sheet, the lists shown as sums ('R') or in full ('F').
 // tests/plans.py gives the form of the first three, tests/reports.py that of a run.
 #![tactic(auto)]
+
 mod changes;
 mod lengths;
 mod marks;

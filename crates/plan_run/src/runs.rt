@@ -61,9 +61,7 @@ fn answer<W: Write>(
         }
         Asked::Report(train, delay) => {
             say::word(out, b"report")?;
-            Ok(planner::report(
-                sheet, train, delay, cells, decisions, delays,
-            ))
+            Ok(planner::report(sheet, train, delay, cells, decisions, delays))
         }
     }
 }

@@ -2,6 +2,7 @@
 // What they must print, stdout, comes from the independent reading of document 01 in
 // tests/plans.py.
 #![tactic(auto)]
+
 use std::io;
 
 fn main(rt: HostRuntime) -> io::Result<()> {

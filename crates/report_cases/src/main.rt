@@ -2,6 +2,7 @@
 // they must print, stdout. tests/report_cases.py makes both, from what document 01 prints or what
 // follows from its sentences; the sums of 64 trains are those of tests/reports.py.
 #![tactic(auto)]
+
 use std::io;
 
 fn main(rt: HostRuntime) -> io::Result<()> {

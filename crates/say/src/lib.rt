@@ -1,5 +1,6 @@
 // What the programs print: words and numbers.
 #![tactic(auto)]
+
 use std::io;
 use std::io::Write;
 

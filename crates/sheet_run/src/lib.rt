@@ -2,6 +2,7 @@
 // A record is a name ('N'), a sheet to read ('R') or numbers to write ('W'); tests/sheets.py gives
 // their form.
 #![tactic(auto)]
+
 mod reads;
 mod writes;
 

@@ -87,7 +87,9 @@ fn write_lists<R: Read, W: Write>(
     list(from, driving)?;
     list(from, delays)?;
     list(from, passengers)?;
-    write_room(out, m, period, departures, driving, delays, passengers, room)
+    write_room(
+        out, m, period, departures, driving, delays, passengers, room,
+    )
 }
 
 pub fn record<R: Read, W: Write>(from: &mut R, out: &mut W) -> io::Result<()> {
