@@ -1,7 +1,7 @@
 -- Fields of bits in a list of bytes. Document 01, "The bit sheet": fields are packed most significant bit first.
 -- Bit 0 is the most significant bit of byte 0, bit 8 that of byte 1.
---   bit_at s i         bit i of the bytes s; past their end it is 0
---   field_of s at w    the number in the w bits from bit at, the first the most significant
+--   bit_at s i        bit i of the bytes s; past their end it is 0
+--   field_of s at w   the number in the w bits from bit at, the first the most significant
 --   Put s at w v t    t is s with v in those bits and every other bit as it was; of lists of bytes there is one such t
 -- Assumes nothing.
 use Rattle.std.specs.Prelude.{ℕ, zero, suc, ◌+◌, ◌-◌, ◌*◌, ◌/◌, ◌%◌, ◌^◌, ◌≤◌, ◌<◌, ◌≡◌, List, ◌⊎◌, length, get_or}

@@ -67,3 +67,8 @@ module _ (m i : ℕ) (cells : List ℕ) where
   pub later_blanks : (r : Refusal) → later_verdict m cells i ≡ Refused r → blanks_of r ≡ true
   unfolding later_verdict row_verdict cell_verdict
   later_blanks = only_first _ _ _ _ (λ k. only_first _ _ _ _ (λ l. only_of _ _ (inr refl, tt)))
+
+-- a cell over the limit refuses its row
+pub row_refused : (m : ℕ) (cells : List ℕ) (k l : ℕ) → limit < table_of m cells k l → k ≤ l → l ≤ m
+    → row_verdict m cells k ≡ Refused (OfReport (CellOverLimit (train k)))
+row_refused m cells k l over a b = row_over m 0 cells k l a b over

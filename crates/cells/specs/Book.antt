@@ -1,6 +1,6 @@
 -- What cells are worked from, as two lists: the times of a line and the sums of those who leave. Document 01, "The
 -- working cells".
---   book_in m timing sums       the book that the lists make for m trains
+--   book_in m timing sums      the book that the lists make for m trains
 --   BookGiven m timing sums    the lists have their lengths, and their numbers are in range
 -- Assumes nothing.
 use Rattle.std.specs.Prelude.{ℕ, ◌≤◌, List}

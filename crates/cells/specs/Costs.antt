@@ -3,7 +3,7 @@
 -- Document 01, "The working cells". Stations count from 1.
 --   costs_count              how many places the list has
 --   excess_in costs l, keep_in costs l, go_in costs l     what stands there for station l
---   with_costs costs l x y z     the list with x, y and z stored there
+--   with_costs costs l x y z    the list with x, y and z stored there
 --   CostsAt B k l costs         the list holds them at station l for the run from k of the book B
 --   CostsAlong B k costs        and at every station from k on
 -- Assumes nothing.

@@ -2,9 +2,9 @@
 -- of checking": 12.
 --   LaterInRange m t cells     every cell in use of the rows after t is at most the limit
 --   CellsInRange m cells       every cell in use is
---   cell_verdict m cells k l    12 for cell (k, l) of a line of m trains
---   row_verdict m cells k       12 for the cells in use of row k
---   later_verdict m cells i     12 for the rows after train i, the first first
+--   cell_verdict m cells k l   12 for cell (k, l) of a line of m trains
+--   row_verdict m cells k      12 for the cells in use of row k
+--   later_verdict m cells i    12 for the rows after train i, the first first
 --   FirstOver m i cells k      row k is the first after train i with a cell in use over the limit
 -- Assumes nothing.
 use Rattle.std.specs.Prelude.{ℕ, ◌+◌, ◌-◌, ◌≤◌, ◌<◌, List, [], ◌∷◌}

@@ -1,8 +1,8 @@
 -- Where the working cells stand. Document 01, "The working cells". Cell (k, l), of the run that begins with train k and
 -- of station l, is in use where 1 ≤ k ≤ l ≤ m; places count from 0.
---   cell_count                     how many working cells are lent
+--   cell_count                    how many working cells are lent
 --   place m k l                   where cell (k, l) of a line of m trains stands
---   table_of m cells               the table that a list of cells holds for m trains
+--   table_of m cells              the table that a list of cells holds for m trains
 --   InRow m k p                   p is the place of a cell in use of row k
 --   InUse m t p                   p is the place of a cell in use of rows 1 to t
 --   RowsWorked B t before after   rows 1 to t are worked anew and nothing else is written

@@ -1,7 +1,7 @@
 -- Decisions as bytes. Document 01, "Following a policy", and "Four operations".
---   byte_of d      keep is 1, go is 0
+--   byte_of d     keep is 1, go is 0
 --   shown m p     the 64 decision bytes of the policy p on a line of m trains
---   policy_in b    the policy that the decision bytes b show
+--   policy_in b   the policy that the decision bytes b show
 -- Assumes nothing.
 use Rattle.std.specs.Prelude.{ℕ, List}
 use Rattle.lists.specs.Choice.{if_below, if_same}

@@ -1,10 +1,10 @@
 -- The sums of those who leave, by the station k where they board and the train l that they leave. Document 01, "The
 -- working cells". Stations and trains count from 1, places from 0.
---   sums_count                   how many places the list has
---   place_of_sum k l              where the sum of station k and train l stands
---   leaving_in sums k l          those who board at station k or later and leave train l
---   boarded_in m sums k l        those who board at station k or later and leave train l or a later one
---   aboard_in m sums k l         those who board at stations k to l - 1 and leave after station l
+--   sums_count                  how many places the list has
+--   place_of_sum k l            where the sum of station k and train l stands
+--   leaving_in sums k l         those who board at station k or later and leave train l
+--   boarded_in m sums k l       those who board at station k or later and leave train l or a later one
+--   aboard_in m sums k l        those who board at stations k to l - 1 and leave after station l
 --   SumsGiven m sums            the list has its length, and its numbers are in range for m trains
 --   Boarders m sums boarding    by station l, those who board at l or later
 -- Assumes nothing.

@@ -1,10 +1,10 @@
 -- The times of a line as one list: 64 places for the slack at each station, 64 for the source delay of each train, 64
 -- for the period at each station. It is prepared once from a sheet's numbers; everything that follows a delay or counts
 -- a missed connection reads it. Document 01, "The line and its numbers". Trains and stations count from 1.
---   timing_count             how many places the list has
+--   timing_count            how many places the list has
 --   place_of_slack s, place_of_source i, place_of_period s     where they stand in the list, counted from 0
 --   slack_in timing s, source_in timing i, period_in timing s     what stands there
---   running_in timing        how the trains run
+--   running_in timing       how the trains run
 --   TimingGiven m timing    the list has its length, and its numbers are in range for m trains
 -- Assumes nothing.
 use Rattle.std.specs.Prelude.{ℕ, ◌+◌, ◌-◌, ◌≤◌, ◌≡◌, List, length, get_or}

@@ -1,6 +1,7 @@
 // The working cells and what they are worked from: where the cells stand, the times of a line, the
 // sums of those who leave, and what the two choices cost along a run. Nothing here writes a cell.
 #![tactic(auto)]
+
 pub mod costs;
 pub mod limits;
 pub mod place;

@@ -10,6 +10,7 @@ use terms::{Refusal, ReportFault, Station, Train, Verdict};
 const LIMIT: u64 = 1916928000000;
 
 // The cells in use of the row that begins with `first`.
+#[tactic(auto, using(crate::proofs::Limited::row_refused))]
 fn check_row(cells: &[u64], m: u32, first: Train) -> Verdict
     requires { (1 ≤ first.0) × (first.0 ≤ m) × (m ≤ 64) ×
         (length cells.now ≡ cell_count) }

@@ -1,8 +1,8 @@
 -- How plan and report are called. The demands are stated once, over any way of calling: by the operations themselves,
 -- and from C (oblachura/specs/Demands), where a list for the answer is lent too.
---   Calling            what is lent beside sheet and buffers, what a call answers, and what plan and report promise
---   Right C x b        all that is lent has the length that document 01 states
---   operations         the operations themselves: nothing more is lent
+--   Calling       what is lent beside sheet and buffers, what a call answers, and what plan and report promise
+--   Right C x b   all that is lent has the length that document 01 states
+--   operations    the operations themselves: nothing more is lent
 -- Assumes nothing.
 use Rattle.std.specs.Prelude.{ℕ, List}
 use Rattle.terms.specs.declared.Answer.{Answer}

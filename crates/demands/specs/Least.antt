@@ -1,7 +1,7 @@
 -- Demand 2, first half: the least total, the earliest connection kept. The statements are about what plan promises,
 -- called in any way (Calling).
---   LeastPlan L after n       what demand 2 says of one accepted plan of the line L that answers the total n
---   Demand2 C                 the demand
+--   LeastPlan L after n   what demand 2 says of one accepted plan of the line L that answers the total n
+--   Demand2 C             the demand
 -- Assumes nothing.
 use Rattle.std.specs.Prelude.{ℕ, ◌≤◌, ◌≡◌, List, get_or}
 use Rattle.lists.specs.Run.{padded}

@@ -1,7 +1,7 @@
 -- Sheet B of document 01, "Sums to check by hand"; what plan answers on sheets A, B and B with T 13 (cases a, b4 and
 -- b6), and what two reports answer after the plan of B (cases b7 and b8).
---   sheet_b, sheet_b13             the bytes of sheet B, by the layout of "The bit sheet", and of B with T 13
---   decision_bytes x              the decisions of the case x as bytes
+--   sheet_b, sheet_b13           the bytes of sheet B, by the layout of "The bit sheet", and of B with T 13
+--   decision_bytes x             the decisions of the case x as bytes
 --   Held m x b                   m trains: decision bytes, delays and cells in use of b are those of the case x, the
 --                                other bytes and delays 0
 --   Leaves m x after a           that, and the answer is the total of the case x

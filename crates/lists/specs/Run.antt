@@ -1,8 +1,8 @@
 -- Runs of places, and lists counted from 1.
 --   run_of step done f i n   step (f i) (step (f (i + 1)) (.. done)): the work still to do at the n places from i
---   listed f i n            the list of f i, f (i + 1), .., n of them
---   padded size n f         the list of f 1, f 2, .., f n and then 0, size places in all
---   nth l i                 place i of a list, counted from 1
+--   listed f i n             the list of f i, f (i + 1), .., n of them
+--   padded size n f          the list of f 1, f 2, .., f n and then 0, size places in all
+--   nth l i                  place i of a list, counted from 1
 -- Assumes nothing.
 use Rattle.std.specs.Prelude.{ℕ, zero, suc, ◌+◌, ◌-◌, List, [], ◌∷◌, get_or}
 use Rattle.lists.specs.Choice.{if_below}

@@ -1,7 +1,7 @@
 -- The numbers that a call from C stores in the list lent for its answer. Document 01, "Four operations" and "Numbers of
 -- refusal": accepted answers carry number and place 0, refused ones 0 behind the place.
---   read_numbers a      number, place, m and T
---   answer_numbers a    number, place and what an accepted answer carries: the total, or in write the length
+--   read_numbers a     number, place, m and T
+--   answer_numbers a   number, place and what an accepted answer carries: the total, or in write the length
 -- Assumes nothing.
 use Rattle.std.specs.Prelude.{ℕ, List, ◌∷◌, []}
 use Rattle.terms.specs.declared.Answer.{Answer}

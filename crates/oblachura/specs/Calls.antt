@@ -1,11 +1,11 @@
 -- What the calls from C return and leave: those of read, write, plan and report, each with the list for its answer.
 -- Document 01, "Four operations".
---   ReadCall s before list after stored r          before, after: the four lists
---   WriteCall G before list after stored r         before, after: the lent bytes
---   PlanCall s before list after stored r          before, after: cells, decisions and delays
---   Lent, lent s b                                 a sheet and these three
---   ReportLeaves i v before after a                what the report that train i has the source delay v now leaves
---   ReportCall i v before list after stored r      before, after: sheet, cells, decisions and delays
+--   ReadCall s before list after stored r       before, after: the four lists
+--   WriteCall G before list after stored r      before, after: the lent bytes
+--   PlanCall s before list after stored r       before, after: cells, decisions and delays
+--   Lent, lent s b                              a sheet and these three
+--   ReportLeaves i v before after a             what the report that train i has the source delay v now leaves
+--   ReportCall i v before list after stored r   before, after: sheet, cells, decisions and delays
 -- list and stored are the list for the answer before and after the call, r is what the call returns.
 -- Assumes nothing.
 use Rattle.std.specs.Prelude.{ℕ, List}

@@ -1,9 +1,9 @@
 -- The three demands, of the calls from C: by the number that a call returns and by what it stores. Document 00;
 -- document 01, "Four operations".
---   Result            what a call of plan or report returns, and what the list for the answer then holds
---   from_c             plan and report as C calls them: the list for the answer is lent beside sheet and buffers
---   PlanStores        what an accepted plan stores in that list
---   Demands           the demands, of these calls
+--   Result       what a call of plan or report returns, and what the list for the answer then holds
+--   from_c       plan and report as C calls them: the list for the answer is lent beside sheet and buffers
+--   PlanStores   what an accepted plan stores in that list
+--   Demands      the demands, of these calls
 -- Assumes nothing.
 use Rattle.std.specs.Prelude.{ℕ, ◌≡◌, List, ◌∷◌, [], length}
 use Rattle.lists.specs.Run.{nth}

@@ -1,8 +1,10 @@
-// The C boundary: read, write, plan and report for programs in C; include/oblachura.h declares
-// them. Each returns the number of the refusal, 0 where accepted, and stores the answer's numbers
-// in the list `answer`. Nothing is decided here but whether that list has its length; where it has
-// not, the call is 10 and writes nothing. No call has a `requires`.
+// The C boundary: read, write, plan and report for programs in C; oblachura_c exports them under
+// these names, and include/oblachura.h declares them. Each returns the number of the refusal, 0
+// where accepted, and stores the answer's numbers in the list `answer`. Nothing is decided here but
+// whether that list has its length; where it has not, the call is 10 and writes nothing. No call
+// has a `requires`.
 #![tactic(auto)]
+
 mod telling;
 
 ghost use Rattle.sheet.specs.Numbers.{lists};
@@ -17,8 +19,7 @@ use terms::Train;
 use writer::write;
 
 // Reads a sheet into the lent lists; the answer is number, place, m and T.
-#[unsafe(no_mangle)]
-pub extern "C" fn oblachura_read(
+pub fn oblachura_read(
     sheet: &[u8],
     departures: &mut [u32],
     driving: &mut [u32],
@@ -41,8 +42,7 @@ pub extern "C" fn oblachura_read(
 }
 
 // Writes the sheet of m, T and four lists; the answer is number, place and its length.
-#[unsafe(no_mangle)]
-pub extern "C" fn oblachura_write(
+pub fn oblachura_write(
     m: u32,
     period: u32,
     departures: &[u32],
@@ -69,8 +69,7 @@ pub extern "C" fn oblachura_write(
 }
 
 // Plans the line of a sheet; the answer is number, place and total.
-#[unsafe(no_mangle)]
-pub extern "C" fn oblachura_plan(
+pub fn oblachura_plan(
     sheet: &[u8],
     cells: &mut [u64],
     decisions: &mut [u8],
@@ -90,8 +89,7 @@ pub extern "C" fn oblachura_plan(
 }
 
 // Takes a new source delay of one train; the answer is number, place and total.
-#[unsafe(no_mangle)]
-pub extern "C" fn oblachura_report(
+pub fn oblachura_report(
     sheet: &mut [u8],
     train: u32,
     delay: u32,

@@ -1,11 +1,11 @@
 -- The lent buffers of plan and report, and what a refusal leaves of them. Document 01, "Four operations" and "Numbers
 -- of refusal".
---   Buffers                    the working cells, the decision bytes and the delays, as they are lent or left
---   buffers c d y              these three lists as one
---   RightLengths b             they have the lengths that document 01 states
+--   Buffers                     the working cells, the decision bytes and the delays, as they are lent or left
+--   buffers c d y               these three lists as one
+--   RightLengths b              they have the lengths that document 01 states
 --   buffers_verdict b           refused, with 10, where they have not; buffer_lengths_verdict by their lengths
---   Blanked before after       the decisions and the delays are blank, the cells as they were
---   RefusedFor r before after  what the refusal r leaves
+--   Blanked before after        the decisions and the delays are blank, the cells as they were
+--   RefusedFor r before after   what the refusal r leaves
 -- Assumes nothing.
 use Rattle.std.specs.Prelude.{ℕ, ◌≡◌, true, false, List, [], ◌∷◌, length, replicate}
 use Rattle.terms.specs.declared.ListFault.TheVariants.{BufferLength}

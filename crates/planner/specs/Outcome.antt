@@ -1,7 +1,7 @@
 -- What plan and report have in common: the answer by their checks, and what a refusal leaves. Document 01, "Four
 -- operations" and "Numbers of refusal".
---   Outcome checks Stored before after a     what the checks say of the answer a and of what is left; Stored n is what
---                                            an accepted call leaves that answers the total n
+--   Outcome checks Stored before after a   what the checks say of the answer a and of what is left; Stored n is what
+--                                          an accepted call leaves that answers the total n
 -- Assumes nothing.
 use Rattle.std.specs.Prelude.{ℕ, ◌≡◌}
 use Rattle.terms.specs.declared.Refusal.{Refusal}

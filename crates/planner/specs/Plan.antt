@@ -1,7 +1,7 @@
 -- What plan returns and what it leaves in the lent buffers. Document 01, "Four operations".
---   plan_verdict s b               all checks of plan, in their order, for the sheet s and the buffers b
---   Planned L before after n      what an accepted plan of the line L leaves that answers the total n
---   Plan s before after a         what plan answers for the sheet s, and what it leaves of the buffers
+--   plan_verdict s b           all checks of plan, in their order, for the sheet s and the buffers b
+--   Planned L before after n   what an accepted plan of the line L leaves that answers the total n
+--   Plan s before after a      what plan answers for the sheet s, and what it leaves of the buffers
 -- Assumes nothing.
 use Rattle.std.specs.Prelude.{◌≡◌, List, ℕ}
 use Rattle.lists.specs.Run.{padded}

@@ -1,8 +1,8 @@
 -- What report returns and what it leaves of the sheet and of the lent buffers. Document 01, "Four operations", and
 -- "Numbers of refusal". A report says that train i has the source delay v now; s is the sheet before it and t after it.
---   report_verdict s i v b               all checks of a report, in their order
---   Reported s i v before t after n     what an accepted report leaves that answers the total n
---   Report s i v before t after a       what report answers, and what it leaves of sheet and buffers
+--   report_verdict s i v b            all checks of a report, in their order
+--   Reported s i v before t after n   what an accepted report leaves that answers the total n
+--   Report s i v before t after a     what report answers, and what it leaves of sheet and buffers
 -- Assumes nothing.
 use Rattle.std.specs.Prelude.{ℕ, ◌≡◌, List}
 use Rattle.terms.specs.declared.Refusal.{Refusal}

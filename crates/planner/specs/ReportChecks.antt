@@ -1,7 +1,7 @@
 -- The checks that are a report's own. Document 01, "Numbers of refusal, in the order of checking": 11, 6 and 12.
---   report_checks m i v              11 and 6 for a report of v minutes for train i
---   own_verdict m i v cells          11, 6, 12 for that report
---   Reportable m i v cells          none of them
+--   report_checks m i v       11 and 6 for a report of v minutes for train i
+--   own_verdict m i v cells   11, 6, 12 for that report
+--   Reportable m i v cells    none of them
 -- Assumes nothing.
 use Rattle.std.specs.Prelude.{ℕ, ◌≤◌, List, [], ◌∷◌}
 use Rattle.terms.specs.declared.ReportFault.TheVariants.{NoSuchTrain, NewDelay}

@@ -1,7 +1,7 @@
 -- What the steps of plan and report need; what the work on the cells leaves is Settled, what is put into the sheet
 -- DelayReplaced (sheet/specs/Accepted).
---   Workable m t b      the later rows allow the work on rows 1 to t
---   DelayRoom s i v     the field of train i's source delay lies in the sheet s, and v fits it
+--   Workable m t b    the later rows allow the work on rows 1 to t
+--   DelayRoom s i v   the field of train i's source delay lies in the sheet s, and v fits it
 -- Assumes nothing.
 use Rattle.std.specs.Prelude.{ℕ, ◌+◌, ◌-◌, ◌*◌, ◌≤◌, List}
 use Rattle.bits.specs.Field.{Within}

@@ -2,6 +2,7 @@
 // Report: the same after one train's source delay changed, worked from that train's row to row 1.
 // Neither has a `requires`: any sheet of bytes, any report and any buffers get an answer.
 #![tactic(auto)]
+
 mod checking;
 mod settling;
 

@@ -1,8 +1,8 @@
 -- What the steps of preparing need of the lists that a sheet's numbers stand in. What they leave is in Prepared.
---   SlackGiven i departures driving            the slack at station i can be taken
---   TrainGiven i departures driving delays     and the source delay of train i
---   pair_in m passengers i j                    those who board at i and leave at j
---   FieldsGiven m passengers                   the fields of a line of m trains, each at most 10,000
+--   SlackGiven i departures driving          the slack at station i can be taken
+--   TrainGiven i departures driving delays   and the source delay of train i
+--   pair_in m passengers i j                 those who board at i and leave at j
+--   FieldsGiven m passengers                 the fields of a line of m trains, each at most 10,000
 -- Assumes nothing.
 use Rattle.std.specs.Prelude.{ℕ, ◌+◌, ◌-◌, ◌≤◌, List, length}
 use Rattle.lists.specs.Run.{nth}

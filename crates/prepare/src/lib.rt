@@ -1,6 +1,7 @@
 // From a sheet to what rows and walk read: one list of times and one of sums. No other crate makes
 // them of a sheet's numbers.
 #![tactic(auto)]
+
 mod sums;
 mod times;
 

@@ -1,7 +1,7 @@
 -- What read returns and what it leaves in the lent lists. Document 01, "Four operations", and "Numbers of refusal".
---   read_verdict s before      all checks of read, in their order, for the sheet s and the lent lists
---   Read s before after a     what read answers for the sheet s, and what it leaves of the lists
---   ReadTells s before a      the same answer in the paper's numbers; it follows from Read (reader/proofs/Stored)
+--   read_verdict s before   all checks of read, in their order, for the sheet s and the lent lists
+--   Read s before after a   what read answers for the sheet s, and what it leaves of the lists
+--   ReadTells s before a    the same answer in the paper's numbers; it follows from Read (reader/proofs/Stored)
 -- Assumes nothing.
 use Rattle.std.specs.Prelude.{ℕ, ◌≡◌, List}
 use Rattle.lists.specs.Run.{padded}

@@ -1,6 +1,7 @@
 // Rows of cells, from a train down to 1, each from the later rows as they stand. Nothing but the
 // cells in use of these rows is written.
 #![tactic(auto)]
+
 ghost use Rattle.std.specs.Prelude.{◌≡◌, ◌≤◌, length};
 ghost use Rattle.line.specs.Cells.{lesser};
 ghost use Rattle.cells.specs.Place.{cell_count, RowsWorked};

@@ -2,13 +2,13 @@
 -- no gaps. Trains and passenger fields count from 1, bits and bytes from 0; s is a sheet, a list of bytes, and m its
 -- number of trains.
 --   trains_of s, period_of s    m and T of the sheet
---   Column                    fields of one width at equal distances: `width` bits from bit `first`, and every `step`
+--   Column                      fields of one width at equal distances: `width` bits from bit `first`, and every `step`
 --   departure_column, driving_column, delay_column, passenger_column m     the four columns behind the head
---   entry s c k               the number in place k, from 0, of the column c
+--   entry s c k                 the number in place k, from 0, of the column c
 --   departure_of s i, driving_of s i, delay_of s i     the times of train i
---   passengers_of s f          the passengers of field f
+--   passengers_of s f           the passengers of field f
 --   bits_of m, bytes_of m, pairs_of m     the bits, the bytes and the passenger fields of a sheet of m trains
---   filling_of s               the filling bits, as one number
+--   filling_of s                the filling bits, as one number
 -- Assumes nothing.
 use Rattle.std.specs.Prelude.{ℕ, ◌+◌, ◌-◌, ◌*◌, ◌/◌, List, length}
 use Rattle.bits.specs.Field.{field_of}

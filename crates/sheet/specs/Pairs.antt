@@ -1,8 +1,8 @@
 -- The passenger field of a pair of stations. Document 01, "The bit sheet": passengers by boarding station, within it by
 -- leaving station. Stations and fields count from 1.
---   IsPair m i j             (i, j) is a pair of stations of a line of m trains
+--   IsPair m i j               (i, j) is a pair of stations of a line of m trains
 --   fields_up_to m k           how many fields have those who board at stations 1 to k: m for station 1, m - 1 for
---                            station 2, and so on
+--                              station 2, and so on
 --   field_of_pair m i j        the field of the pair (i, j)
 --   passengers_of_pair N i j   those who board at station i and leave at station j
 -- Assumes nothing.

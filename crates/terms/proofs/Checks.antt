@@ -1,7 +1,7 @@
 -- Laws of checks in their order, as a function that answers a verdict uses them: a test that refused is the answer
 -- (`hit`, `unlike`), a test that passed leaves the rest (`miss`, `alike`); and a list of checks is fine exactly when
 -- each of them passes.
---   Passes c, refusal_of c    the check c finds nothing; what it refuses for
+--   Passes c, refusal_of c   the check c finds nothing; what it refuses for
 --   Passed checks            each of them passes
 -- Assumes nothing.
 use mathlib.Core.Path.{◌≡◌, refl, sym, ap, subst, ◌∙◌}

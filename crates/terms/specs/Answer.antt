@@ -1,8 +1,8 @@
 -- What the answer of write, plan and report carries. Document 01, "Numbers of refusal": accepted answers carry number
 -- and place 0; refused ones carry number and place, and 0 for the total or the length.
---   answer_number a, answer_place a     the number and the place of the answer a
---   answer_carries a                   the total, or in write the length of the sheet
---   answer_of v n                      the answer by the verdict v, n being what it carries if accepted
+--   answer_number a, answer_place a   the number and the place of the answer a
+--   answer_carries a                  the total, or in write the length of the sheet
+--   answer_of v n                     the answer by the verdict v, n being what it carries if accepted
 -- Assumes nothing.
 use Rattle.std.specs.Prelude.{ℕ}
 use Rattle.terms.specs.Refusal.{number_of, place_of}

@@ -1,7 +1,7 @@
 -- The number, the place and the blanks of each refusal. Document 01, "Numbers of refusal".
 --   number_of r   the number that the paper gives to the refusal r
 --   place_of r    its place: a train, a row of cells being that of the train its run begins with, or a passenger field
---                from 1; 0 where the paper states none
+--                 from 1; 0 where the paper states none
 --   blanks_of r   whether a plan or a report that is refused for r blanks decisions and delays
 -- Assumes nothing.
 use Rattle.std.specs.Prelude.{ℕ, Bool, true, false}

@@ -2,11 +2,11 @@
 -- order of checking".
 --   refuse r when a below b   the check that refuses for r where a is less than b
 --   refuse r unless a is b    the check that refuses for r where a differs from b
---   verdict_of checks          what the first check of a list says that refuses; fine if none does
---   v and_then w               what v says if it refuses, else what w says
---   first_of f i n             the first refusal of f i, f (i + 1), .., n of them
---   if_fine v x y              x where the verdict v is fine, y where it refuses
---   number_in v, place_in v     the paper's number and place of a verdict; 0 and 0 where it is fine
+--   verdict_of checks         what the first check of a list says that refuses; fine if none does
+--   v and_then w              what v says if it refuses, else what w says
+--   first_of f i n            the first refusal of f i, f (i + 1), .., n of them
+--   if_fine v x y             x where the verdict v is fine, y where it refuses
+--   number_in v, place_in v   the paper's number and place of a verdict; 0 and 0 where it is fine
 -- Assumes nothing.
 use Rattle.std.specs.Prelude.{ℕ, List, [], ◌∷◌}
 use Rattle.lists.specs.Choice.{if_below, if_same}

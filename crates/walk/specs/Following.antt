@@ -1,5 +1,5 @@
 -- What the steps of the walk need and leave. Document 01, "Four operations", report: comparing the two choices.
---   chosen_by             the choice at station l on the run from k, by the costs of that run and the cells
+--   chosen_by            the choice at station l on the run from k, by the costs of that run and the cells
 --   ChoiceGiven          what comparing them there needs
 --   StepGiven, Stepped   one station
 --   WalkGiven            the whole walk; what it leaves is Walked

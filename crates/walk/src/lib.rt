@@ -1,5 +1,6 @@
 // Decisions and arrival delays read off cells as they stand, train by train.
 #![tactic(auto)]
+
 ghost use Rattle.std.specs.Prelude.{◌≡◌};
 ghost use Rattle.line.specs.Cells.{prefer};
 ghost use Rattle.cells.specs.Place.{table_of};
@@ -20,6 +21,7 @@ const KEEP: u8 = 1;
 const GO: u8 = 0;
 
 // The lesser choice, and keep when equal or where there is no excess.
+#[tactic(auto, using(line::proofs::Choices::prefer_of_go_less, line::proofs::Choices::prefer_of_keep_le))]
 fn prefer(excess: u64, keep: u64, go: u64) -> u8
     ensures { result ≡ byte_of (prefer excess keep go) }
 {
@@ -43,7 +45,7 @@ fn choose(costs: &[u64], cells: &[u64], m: u32, first: Train, train: Train) -> u
 
 // What one station decides: the byte, the train that the run then begins with, and how late its
 // train arrives.
-#[derive(Drop)]
+#[derive(Clone, Copy)]
 struct Step {
     decision: u8,
     first: Train,

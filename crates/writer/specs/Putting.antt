@@ -1,9 +1,9 @@
 -- What the steps of writing a sheet need and leave; write's own promise stands in Write.
---   PutRoom, ColumnPut     a column
---   HeadRoom, HeadPut      m and T
---   TimesRoom, TimesPut    the three columns of the trains
---   FillingPut             the bits behind the last field
---   Writable               what the whole needs; what it leaves is SheetOf (sheet/specs/Accepted)
+--   PutRoom, ColumnPut    a column
+--   HeadRoom, HeadPut     m and T
+--   TimesRoom, TimesPut   the three columns of the trains
+--   FillingPut            the bits behind the last field
+--   Writable              what the whole needs; what it leaves is SheetOf (sheet/specs/Accepted)
 -- Assumes nothing.
 use Rattle.std.specs.Prelude.{ℕ, ◌+◌, ◌-◌, ◌*◌, ◌^◌, ◌≤◌, ◌<◌, ◌≡◌, List, ◌⊎◌, length, get_or}
 use Rattle.lists.specs.Run.{nth}

@@ -1,10 +1,10 @@
 -- What write returns and what it leaves in the lent bytes. Document 01, "Four operations", and "Numbers of refusal".
---   Given, given m T L        m, T and the four lists
---   numbers_given G            the line's numbers that they hold
---   write_verdict room G       all checks of write, in their order, for an output of `room` bytes
---   Accepts room G            the same as plain facts
---   Write G before after a    what write answers for G, and what it leaves of the lent bytes
---   WriteTells G before a     the same answer in the paper's numbers; it follows from Write (writer/proofs/Outcome)
+--   Given, given m T L       m, T and the four lists
+--   numbers_given G          the line's numbers that they hold
+--   write_verdict room G     all checks of write, in their order, for an output of `room` bytes
+--   Accepts room G           the same as plain facts
+--   Write G before after a   what write answers for G, and what it leaves of the lent bytes
+--   WriteTells G before a    the same answer in the paper's numbers; it follows from Write (writer/proofs/Outcome)
 -- Assumes nothing.
 use Rattle.std.specs.Prelude.{ℕ, ◌≡◌, List, [], ◌∷◌, length, take, drop}
 use Rattle.terms.specs.declared.Refusal.{Refusal}

@@ -18,9 +18,8 @@ overflow_mul-number c = omega (arith, small (goal.at.overflow_mul-number c).In-l
 -- a bit more stays below 2 ^ 32
 pub overflow_add-number : goal.overflow_add-number
 overflow_add-number c =
-    let start = c.args in
-    let k = c.loop-k.k in
-    omega (arith, small (goal.at.overflow_add-number c).In-loop-k, c.bit.ensures, bit_lt start.bytes.now (start.at + k))
+    let bit : c.bit.result < 2 = rw c.bit.ensures (bit_lt _ _) in
+    omega (arith, small (goal.at.overflow_add-number c).In-loop-k)
 
 pub loop-k-preserved : goal.loop-k-preserved
 loop-k-preserved c = (omega arith, rw field_more (cc))

@@ -1,0 +1,28 @@
+-- `limits::check_row` meets its contract, by the invariant that stands in Invariants.antt.
+use mathlib.Core.Path.{refl}
+use native.Mathlib.Omega.{arith}
+use Rattle.terms.proofs.Checks.{search_first, search_next, search_end, miss}
+use Rattle.terms.proofs.Checks.{no_more}
+use Rattle.cells.specs.Limits.{cell_verdict, row_verdict}
+use Rattle.cells.proofs.limits.check_row.Goals as goal
+
+pub loop-l-init : goal.loop-l-init
+loop-l-init c = rw c.leaves-l.ensures (search_first _ _ _)
+
+-- the column lies in the row
+pub cell_at-requires : goal.cell_at-requires
+cell_at-requires c =
+    let start = c.requires in
+    (start.0, c.loop-l.invariant.least, start.2, start.3)
+
+-- it is not
+pub loop-l-preserved : goal.loop-l-preserved
+unfolding cell_verdict
+loop-l-preserved c =
+    search_next _ _ _ c.loop-l.invariant (omega arith) refl
+    (miss _ _ _ _ _ (omega (arith, c.cell_at.ensures)) no_more)
+
+-- every cell passed
+pub returns : goal.returns
+unfolding row_verdict
+returns c = search_end _ _ _ c.loop-l.invariant (omega arith)

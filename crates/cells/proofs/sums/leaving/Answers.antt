@@ -1,0 +1,14 @@
+-- `sums::leaving` meets its contract: one number of the sums, and no more leave one train than board at all.
+use mathlib.Core.Path.{◌≡◌}
+use native.Mathlib.Omega.{arith}
+use Rattle.cells.specs.Sums.{leaving_in}
+use Rattle.cells.proofs.Leavers.{leaving_le}
+use Rattle.cells.proofs.sums.leaving.Goals as goal
+
+pub returns : goal.returns
+returns c =
+    let p = c.requires in
+    let most = leaving_le _ _ p.0 _ _ p.1 p.2 p.3 in
+    let held : c.wide.result ≡ leaving_in c.args.sums.now c.args.from.0 c.args.train.0 =
+    unfold leaving_in in rw (c.wide.ensures, c.place_of_sum.ensures.0) in
+    (held, omega arith)

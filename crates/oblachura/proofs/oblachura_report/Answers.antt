@@ -1,0 +1,12 @@
+-- `oblachura_report` meets its contract: it is report, once the list for the answer has its length.
+use Rattle.oblachura.proofs.Call.{call_told, call_wrong_list}
+use Rattle.oblachura.proofs.oblachura_report.Goals as goal
+
+-- the list has another length
+pub returns-then-answer-ne-ANSWER : goal.returns-then-answer-ne-ANSWER
+returns-then-answer-ne-ANSWER c = call_wrong_list c.if-answer-ne-ANSWER.true c.wrong_list.ensures
+
+-- the list has its length: report answered
+pub returns : goal.returns
+returns c =
+    call_told c.if-answer-ne-ANSWER.false c.report.result c.report.ensures c.tell_answer.ensures
