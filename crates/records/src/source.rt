@@ -1,17 +1,18 @@
 // Numbers of the input, high byte first; 0 for what the input lacks.
-ghost use Rattle.std.specs.Prelude.{◌≤◌, IfOk};
+ghost use Rattle.std.specs.Prelude.{◌≤◌, IfOk, OnErr};
+ghost use Rattle.std.specs.Io.KnownBytes.{Keeps};
 
 use std::io;
 use std::io::{Read, Write};
 
-// The next byte, or 256 at the end.
+// The next byte, or 256 at the end. Where the read fails, no byte is taken.
 pub fn byte<R: Read>(from: &mut R) -> io::Result<u32>
-    ensures { IfOk result (λ b. b ≤ 256) }
+    ensures within { IfOk result (λ b. b ≤ 256) }
+    ensures err { OnErr result (Keeps (R.remaining from.old) (R.remaining from.new)) }
 {
-    match from.bytes().next() {
-        None => Ok(256),
-        Some(read) => Ok(wide(read?)),
-    }
+    let mut read = [0u8; 1];
+    let n = from.read(&mut read)?;
+    Ok(if n == 1 { wide(read[0]) } else { 256 })
 }
 
 // The byte, as a number.
