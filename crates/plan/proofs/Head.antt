@@ -1,10 +1,7 @@
 -- A planned sheet has a head: its first field lies within it and is a number of trains, at most 64.
 -- Assumes nothing.
-use Prim.Native.Nat.{ℕ, ◌≤◌}
-use native.Mathlib.Omega.{arith}
-use mathlib.Core.Path.{◌≡◌, sym, ◌∙◌}
-use mathlib.Core.List.{List}
-use lib.Dec.{lit≤}
+use Rattle.std.proofs.Common.{ℕ, ◌≤◌, arith, ◌≡◌, sym, ◌∙◌, List}
+use Rattle.std.proofs.Math.Dec.{lit≤}
 use Rattle.bits.specs.Field.{field_of, Within}
 use Rattle.terms.proofs.Answers.{accepted_answer}
 use Rattle.terms.specs.declared.Answer.{Answer}

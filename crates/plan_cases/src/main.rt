@@ -2,6 +2,9 @@
 // they must print, stdout. tests/plan_cases.py makes both, from what document 01 prints and, where
 // it prints nothing, from the independent reading in tests/plans.py.
 #![tactic(auto)]
-fn main() {
-    plan_run::run(libc::STDIN_FILENO);
+
+use std::io;
+
+fn main(rt: HostRuntime) -> io::Result<()> {
+    plan_run::run(&mut rt.stdin(), &mut rt.stdout())
 }

@@ -1,6 +1,9 @@
 // How many working cells a step changed, by what they held before.
 ghost use Rattle.std.specs.Prelude.{◌≤◌};
 
+use std::io;
+use std::io::Write;
+
 // What stands at a place, 0 behind the last.
 fn at(cells: &[u64], k: usize) -> u64 {
     if k < cells.len() { cells[k] } else { 0 }
@@ -25,8 +28,8 @@ fn changed(before: &[u64], cells: &[u64]) -> usize {
 }
 
 // Says how many, on a line of its own.
-pub fn show(before: &[u64], cells: &[u64]) {
-    say::word(b"changed");
-    say::next(changed(before, cells) as u64);
-    say::end();
+pub fn show<W: Write>(out: &mut W, before: &[u64], cells: &[u64]) -> io::Result<()> {
+    say::word(out, b"changed")?;
+    say::next(out, changed(before, cells) as u64)?;
+    say::end(out)
 }

@@ -1,5 +1,7 @@
 // The lengths of the buffers that a record or a step lends.
 use records::source::short;
+use std::io;
+use std::io::Read;
 
 #[derive(Drop)]
 pub struct Lengths {
@@ -9,13 +11,13 @@ pub struct Lengths {
 }
 
 // The next three numbers of the input.
-pub fn next(from: i32) -> Lengths {
-    let cells = short(from);
-    let decisions = short(from);
-    let delays = short(from);
-    Lengths {
+pub fn next<R: Read>(from: &mut R) -> io::Result<Lengths> {
+    let cells = short(from)?;
+    let decisions = short(from)?;
+    let delays = short(from)?;
+    Ok(Lengths {
         cells,
         decisions,
         delays,
-    }
+    })
 }

@@ -1,8 +1,9 @@
-// Runs plan and report on records from a file descriptor and prints what they answer and leave.
+// Runs plan and report on records from a reader and prints what they answer and leave.
 // A record is a name ('N'), a sheet to plan, its lists shown as sums ('P') or in full ('L'), or a
 // run of several steps on one sheet, the lists shown as sums ('R') or in full ('F').
 // tests/plans.py gives the form of the first three, tests/reports.py that of a run.
 #![tactic(auto)]
+
 mod changes;
 mod lengths;
 mod marks;
@@ -13,6 +14,8 @@ mod shown;
 
 use records::source;
 use records::source::byte;
+use std::io;
+use std::io::{Read, Write};
 
 // The letter a record begins with.
 const NAME: u32 = 78;
@@ -26,37 +29,39 @@ const RUN_SUMS: u32 = 82;
 const RUN_LISTS: u32 = 70;
 
 // One record of a kind; false where there is none.
-fn record(from: i32, kind: u32) -> bool {
+fn record<R: Read, W: Write>(from: &mut R, out: &mut W, kind: u32) -> io::Result<bool> {
     if kind == NAME {
-        source::name(from);
-        return true;
+        source::name(from, out)?;
+        return Ok(true);
     }
     if kind == SUMS {
-        plans::record(from, false);
-        return true;
+        plans::record(from, out, false)?;
+        return Ok(true);
     }
     if kind == LISTS {
-        plans::record(from, true);
-        return true;
+        plans::record(from, out, true)?;
+        return Ok(true);
     }
     if kind == RUN_SUMS {
-        runs::record(from, false);
-        return true;
+        runs::record(from, out, false)?;
+        return Ok(true);
     }
     if kind == RUN_LISTS {
-        runs::record(from, true);
-        return true;
+        runs::record(from, out, true)?;
+        return Ok(true);
     }
-    false
+    Ok(false)
 }
 
 // Up to 100,000 records.
-pub fn run(from: i32) {
+pub fn run<R: Read, W: Write>(from: &mut R, out: &mut W) -> io::Result<()> {
     let mut left: u32 = 100000;
     while 0 < left {
-        if !record(from, byte(from)) {
-            return;
+        let kind = byte(from)?;
+        if !record(from, out, kind)? {
+            return Ok(());
         }
         left -= 1;
     }
+    Ok(())
 }

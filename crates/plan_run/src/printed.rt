@@ -2,6 +2,8 @@
 ghost use Rattle.std.specs.Prelude.{◌≤◌};
 
 use records::at_most;
+use std::io;
+use std::io::Write;
 
 // The byte, as wide as what is said.
 fn wide_byte(b: u8) -> u64 {
@@ -14,54 +16,55 @@ fn wide(n: u32) -> u64 {
 }
 
 // A line of bytes.
-pub fn bytes(list: &[u8]) {
+pub fn bytes<W: Write>(out: &mut W, list: &[u8]) -> io::Result<()> {
     let mut k = 0;
     while k < list.len() {
-        say::next(wide_byte(list[k]));
+        say::next(out, wide_byte(list[k]))?;
         k += 1;
     }
-    say::end();
+    say::end(out)
 }
 
 // A line of numbers of four bytes.
-pub fn numbers(list: &[u32]) {
+pub fn numbers<W: Write>(out: &mut W, list: &[u32]) -> io::Result<()> {
     let mut k = 0;
     while k < list.len() {
-        say::next(wide(list[k]));
+        say::next(out, wide(list[k]))?;
         k += 1;
     }
-    say::end();
+    say::end(out)
 }
 
 // A line of numbers of eight bytes.
-fn longs(list: &[u64]) {
+fn longs<W: Write>(out: &mut W, list: &[u64]) -> io::Result<()> {
     let mut k = 0;
     while k < list.len() {
-        say::next(list[k]);
+        say::next(out, list[k])?;
         k += 1;
     }
-    say::end();
+    say::end(out)
 }
 
 // The cells in use of row k, of m trains: cell (k, k) stands at 64(k-1)+(k-1).
-fn row(cells: &[u64], k: usize, m: usize)
+fn row<W: Write>(out: &mut W, cells: &[u64], k: usize, m: usize) -> io::Result<()>
     requires { (1 ≤ k) × ((k ≤ m) × (m ≤ 127)) }
 {
-    say::word(b"row ");
-    say::number(k as u64);
-    say::word(b":");
+    say::word(out, b"row ")?;
+    say::number(out, k as u64)?;
+    say::word(out, b":")?;
     let first = at_most(65 * (k - 1), cells.len());
     let end = at_most(first + m - k + 1, cells.len());
-    longs(&cells[first..end]);
+    longs(out, &cells[first..end])
 }
 
 // The cells in use of m trains, row by row.
-pub fn rows(cells: &[u64], m: usize)
+pub fn rows<W: Write>(out: &mut W, cells: &[u64], m: usize) -> io::Result<()>
     requires { m ≤ 127 }
 {
     let mut k = 1;
     while k <= m {
-        row(cells, k, m);
+        row(out, cells, k, m)?;
         k += 1;
     }
+    Ok(())
 }

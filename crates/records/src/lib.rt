@@ -1,6 +1,7 @@
 // What the programs that run records share: the numbers of the input, how much of a list is lent,
 // and what a list holds.
 #![tactic(auto)]
+
 ghost use Rattle.std.specs.Prelude.{◌≡◌, min};
 
 pub mod source;

@@ -2,6 +2,9 @@
 // they must print, stdout. tests/report_cases.py makes both, from what document 01 prints or what
 // follows from its sentences; the sums of 64 trains are those of tests/reports.py.
 #![tactic(auto)]
-fn main() {
-    plan_run::run(libc::STDIN_FILENO);
+
+use std::io;
+
+fn main(rt: HostRuntime) -> io::Result<()> {
+    plan_run::run(&mut rt.stdin(), &mut rt.stdout())
 }

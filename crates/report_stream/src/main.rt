@@ -2,6 +2,9 @@
 // What they must print, stdout, comes from the independent reading of document 01 in
 // tests/reports.py.
 #![tactic(auto)]
-fn main() {
-    plan_run::run(libc::STDIN_FILENO);
+
+use std::io;
+
+fn main(rt: HostRuntime) -> io::Result<()> {
+    plan_run::run(&mut rt.stdin(), &mut rt.stdout())
 }

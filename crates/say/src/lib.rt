@@ -1,22 +1,24 @@
-// What the programs write to standard output: words and numbers.
+// What the programs print: words and numbers.
 #![tactic(auto)]
-use libc::STDOUT_FILENO;
 
-pub fn word(text: &[u8]) {
-    io::write_all(STDOUT_FILENO, text);
+use std::io;
+use std::io::Write;
+
+pub fn word<W: Write>(out: &mut W, text: &[u8]) -> io::Result<()> {
+    out.write_all(text)
 }
 
-pub fn number(n: u64) {
-    io::print_decimal(STDOUT_FILENO, n);
+pub fn number<W: Write>(out: &mut W, n: u64) -> io::Result<()> {
+    write!(out, "{n}")
 }
 
 // A space, then the number.
-pub fn next(n: u64) {
-    word(b" ");
-    number(n);
+pub fn next<W: Write>(out: &mut W, n: u64) -> io::Result<()> {
+    word(out, b" ")?;
+    number(out, n)
 }
 
 // The end of the line.
-pub fn end() {
-    word(b"\n");
+pub fn end<W: Write>(out: &mut W) -> io::Result<()> {
+    word(out, b"\n")
 }

@@ -2,6 +2,9 @@
 // What they must print, stdout, comes from the independent reading of document 01 in
 // tests/sheets.py.
 #![tactic(auto)]
-fn main() {
-    sheet_run::run(libc::STDIN_FILENO);
+
+use std::io;
+
+fn main(rt: HostRuntime) -> io::Result<()> {
+    sheet_run::run(&mut rt.stdin(), &mut rt.stdout())
 }
