@@ -1,7 +1,8 @@
 -- The sum of a list, worked from the last place down: at each place, what stands from there on is added once more,
 -- so that no place is multiplied. `Worked` is the invariant, with laws for the start, a turn and the end.
 -- Assumes nothing.
-use Rattle.std.proofs.Common.{◌≡◌, refl, ap, ◌∙◌, List, [], ◌∷◌, ℕ, suc, ◌+◌, ◌-◌, ◌≤◌, ◌<◌, arith, length, get_or, drop}
+use Rattle.std.proofs.Common.{◌≡◌, refl, ap, ◌∙◌, List, [], ◌∷◌, ℕ, suc, ◌+◌, ◌-◌, ◌≤◌, ◌<◌, arith}
+use Rattle.std.proofs.Common.{length, get_or, drop}
 use Rattle.std.proofs.Math.Nat.{add-mul, one-mul}
 use Rattle.std.proofs.Math.Seq.{drop-cons, drop-length}
 use Rattle.records.specs.Weighed.{cut, weighed, sum_of}

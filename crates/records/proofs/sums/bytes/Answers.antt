@@ -9,5 +9,7 @@ loop-k-init c = (search rules, worked_none _)
 
 -- one place more in front of those passed
 pub loop-k-preserved : goal.loop-k-preserved
-loop-k-preserved c =
-    (search rules, worked_more (search rules) (search rules) c.wide_byte.ensures c.loop-k.invariant.1 c.with-sum.ensures)
+loop-k-preserved c = (
+  search rules,
+  worked_more (search rules) (search rules) c.wide_byte.ensures c.loop-k.invariant.1 c.with-sum.ensures,
+)
