@@ -1,7 +1,8 @@
 #!/usr/bin/env bash
 # Reads the source of the exported functions, those marked extern "C": each has an `ensures` and no `requires`, the
-# header declares it, and the crate `caller` calls the library's function of its name, with no `requires` either. C could
-# not be held to a `requires`, and a proof that assumes one says nothing of a caller who does not keep it.
+# header declares it, and the crate `caller` calls the library's function of its name; no function of `caller` has a
+# `requires` either. C could not be held to a `requires`, and a proof that assumes one says nothing of a caller who does
+# not keep it.
 #   exported.sh            the crates and the header of this project
 #   exported.sh --wrong    wrong sources, each of which has to be found, and a right one
 set -euo pipefail
@@ -130,7 +131,7 @@ $fn $promise { 0 }" "$call"
 $fn $promise { 0 }" "$call"
   must_find "$hidden" "$fn ensures { a -- {
 } requires { x } { 0 }" "$call"
-  must_find 'oblachura_one has a clause that is not understood' "$fn $promise unknown { x } requires { x } { 0 }" "$call"
+  must_find 'oblachura_one has a clause that is not understood' "$fn $promise more { x } requires { x } { 0 }" "$call"
   must_find 'oblachura_one has no ensures' "$fn { if a { 0 } else { 1 } } // ensures { a }" "$call"
   must_find 'oblachura_one is not called' "$fn $promise { 0 }" 'fn c() { none(a) } // oblachura_one(a)'
   must_find 'caller has a requires' "$fn $promise { 0 }" 'fn c() requires { x } { oblachura_one(a) }'
@@ -143,5 +144,5 @@ if [ "${1:-}" = --wrong ]; then
 else
   found=$(read_crates crates include/oblachura.h)
   [ -z "$found" ] || { printf '%s\n' "$found" >&2; exit 1; }
-  echo 'each exported function is in the header and has an ensures, no requires and, of its name, a caller that asks for nothing'
+  echo 'each exported function has an ensures and no requires, and is in the header and, of its name, in caller'
 fi
