@@ -9,8 +9,8 @@ SHELL = bash
 
 help:
 	@echo 'make run       build the display, plan the sample line B and show its board'
-	@echo 'make test      the gate: prove everything from nothing, try the wrong versions, run the programs and the tests'
-	@echo '               from outside (README.md tells how long)'
+	@echo 'make test      the gate: prove everything, try the wrong versions, run the programs and the tests from outside'
+	@echo '               (README.md tells how long)'
 	@echo 'make desk      build the display, $(DESK)'
 	@echo 'make archive   prove the operations and build $(ARCHIVE), to link with include/oblachura.h'
 	@echo 'make cases     prove plan and report, run them on the cases of document 01 and show what they answer and store'
