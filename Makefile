@@ -9,8 +9,8 @@ SHELL = bash
 
 help:
 	@echo 'make run       build the display, plan the sample line B and show its board'
-	@echo 'make test      the gate: prove everything from nothing, try the wrong versions, run the programs and the tests'
-	@echo '               from outside (about 10 minutes)'
+	@echo 'make test      the gate: prove everything, try the wrong versions, run the programs and the tests from outside'
+	@echo '               (README.md tells how long)'
 	@echo 'make desk      build the display, $(DESK)'
 	@echo 'make archive   prove the operations and build $(ARCHIVE), to link with include/oblachura.h'
 	@echo 'make cases     prove plan and report, run them on the cases of document 01 and show what they answer and store'
@@ -62,9 +62,11 @@ DESK = $(BUILT)/desk
 DISPLAY = $(CC_X86) $(STATIC) -std=c11 -D_POSIX_C_SOURCE=200809L -O2 $(WARN) -Wshadow -Wconversion -Iinclude
 REFUSING = tests/display/refusing/refusing.c -Wl,--wrap=oblachura_report,--wrap=oblachura_plan
 
-# Crates wait for those below them, so more jobs than processors keep all busy; 4 suits two processors.
-export RT_JOBS ?= 4
 RT = @command -v rt > /dev/null || { echo 'rt, the command of the Rattle toolchain, is not on the PATH' >&2; exit 1; }
+# Proves a program and runs it, as rt ci does; it must print its crate's stdout.
+run_program = mkdir -p target/log; log="$(CURDIR)/target/log/$(1)"; \
+	(cd crates/$(1) && rt run < stdin > "$$log.stdout" 2> "$$log") || { cat "$$log" >&2; exit 1; }; \
+	cmp "$$log.stdout" crates/$(1)/stdout
 
 run: desk
 	@echo quit | $(EMULATOR) $(DESK) board samples/B.sheet
@@ -75,8 +77,9 @@ test:
 
 cases:
 	$(RT)
-	@echo 'proving what plan and report rest on (two or three minutes the first time) ..' >&2
-	@rt check plan_cases report_cases > /dev/null || { rt check plan_cases report_cases; exit 1; }
+	@echo 'proving what plan and report rest on (some minutes the first time) ..' >&2
+	@$(call run_program,plan_cases)
+	@$(call run_program,report_cases)
 	@cat target/log/plan_cases.stdout target/log/report_cases.stdout
 
 tools:
@@ -87,12 +90,13 @@ compiler:
 
 archive: $(ARCHIVE)
 
-# Anew when a crate has changed. What the archive rests on is proved first, crates side by side; rt staticlib alone
-# would go through them one by one.
-$(ARCHIVE): crates.txt $(shell find crates -name '*.rt' -o -name '*.antt')
+# Anew when a crate has changed; crates/NAME/out holds what rt made of one.
+$(ARCHIVE): crates.txt $(shell find crates -name out -prune -o \( -name '*.rt' -o -name '*.antt' \) -print)
 	$(RT)
-	@echo 'proving the operations and building the archive (two or three minutes) ..' >&2
-	@{ rt check demands && rt staticlib oblachura; } > /dev/null 2>&1 || { rt staticlib oblachura; exit 1; }
+	@echo 'proving the operations and building the archive (some minutes the first time) ..' >&2
+	@mkdir -p $(dir $@) target/log
+	@(cd crates/oblachura_c && rt lib) > target/log/archive 2>&1 || { cat target/log/archive >&2; exit 1; }
+	@cp crates/oblachura_c/out/liboblachura_c.a $@
 	@echo 'built $(ARCHIVE)' >&2
 
 desk: $(DESK)
@@ -119,7 +123,9 @@ example: tools archive
 
 program: tools
 	$(RT)
-	@rt check plan > /dev/null 2>&1 || { rt check plan; exit 1; }
+	@$(call run_program,plan)
+	@mkdir -p target/bin
+	@cp crates/plan/out/plan target/bin/plan
 	@bash tests/program.sh "$(CURDIR)/target/bin/plan" $(EMULATOR) $(LOADED_BY)
 
 # against document 01, then against each mistake that a reader of it might make
@@ -166,4 +172,5 @@ wrong:
 	python3 tests/reports.py --wrong
 
 format:
-	rt fmt
+	$(RT)
+	@for crate in crates/*/; do (cd "$$crate" && rt fmt) || exit 1; done
