@@ -94,7 +94,7 @@ module _ (w : Verdict) (Stored : ℕ → Type 0) (before after : Buffers) (a : A
   nothing_written : checks ≡ Refused (OfList BufferLength) → after ≡ before
   nothing_written e = (h.refused (OfList BufferLength) e).kept refl
 
-  module _ (Passes : Type 0) (m last : ℕ) (passes : w ≡ Fine → Passes) (Fine-of : Passes → w ≡ Fine)
+  module _ (Passes : Type 0) (m last : ℕ) (passes : w ≡ Fine → Passes) (fine_of : Passes → w ≡ Fine)
       (blank : (r : Refusal) → w ≡ Refused r → blanks_of r ≡ true)
       (left : RightLengths before → w ≡ Fine → Stored (answer_carries a) → Left m last before after (answer_carries a))
     where
@@ -159,7 +159,7 @@ module _ (w : Verdict) (Stored : ℕ → Type 0) (before after : Buffers) (a : A
       answered : Answered operations checks Passes m last tt before after a
       answered =
           record {
-            accepts = λ right ok. zero_of_fine (checks_right before w right.buffers ∙ Fine-of ok);
+            accepts = λ right ok. zero_of_fine (checks_right before w right.buffers ∙ fine_of ok);
             accepted_only = λ e.
                 let both = checks_fine before w (fine_of_zero e) in
                 (all_right both.0, passes both.1);

@@ -1,7 +1,7 @@
 -- What a list holds, as one number.
 --   cut n          n modulo 10^18
 --   weighed k xs   each place times what stands there; the first place is k
---   sum_of xs       the same with places from 1, cut
+--   sum_of xs      the same with places from 1, cut
 -- Assumes nothing.
 use Rattle.std.specs.Prelude.{ℕ, ◌+◌, ◌*◌, ◌%◌, List, [], ◌∷◌}
 
