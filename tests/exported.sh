@@ -4,7 +4,7 @@
 # `requires` either. C could not be held to a `requires`, and a proof that assumes one says nothing of a caller who does
 # not keep it.
 #   exported.sh            the crates and the header of this project
-#   exported.sh --wrong    wrong sources, each of which has to be found, and a right one
+#   exported.sh --wrong    wrong sources, each of which has to be found, and two right ones
 set -euo pipefail
 cd "$(dirname "$0")/.."
 

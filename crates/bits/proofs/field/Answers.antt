@@ -1,4 +1,4 @@
--- `bits::field` meets its contract by the invariant beside this file.
+-- `bits::field` meets its contract, by the invariant that stands in Invariants.antt.
 use mathlib.Core.Path.{sym, ap, ◌∙◌}
 use Prim.Native.Nat.{◌<◌, ◌+◌}
 use native.Mathlib.Omega.{arith}

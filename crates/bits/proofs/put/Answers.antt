@@ -1,4 +1,4 @@
--- `bits::put` meets its contract by the invariant beside this file.
+-- `bits::put` meets its contract, by the invariant that stands in Invariants.antt.
 use mathlib.Core.Path.{◌≡◌, refl, sym, ap, subst, ◌∙◌}
 use mathlib.Core.List.{List}
 use Prim.Native.Nat.{ℕ, ◌<◌, ◌+◌, ◌-◌, ◌*◌, ◌/◌, ◌%◌, ◌^◌}

@@ -8,18 +8,13 @@ use Rattle.sheet.specs.Checks.{sheet_verdict}
 use Rattle.sheet.specs.Accepted.{AcceptedSheet}
 use Rattle.reader.proofs.ReadingOf.{refused_verdict}
 use Rattle.prepare.specs.LineOf.{line_of}
-use Rattle.planner.specs.Buffers.{buffers, RightLengths, buffers_verdict}
+use Rattle.planner.specs.Buffers.{buffers, RightLengths}
 use Rattle.planner.specs.Plan.{plan_verdict}
 use Rattle.planner.proofs.Refusals.{right_or_unwritten, accepted_of_plan}
 use Rattle.planner.proofs.Taken.{after_same, taken_fine, taken_trains, taken_given, settled_for}
 use Rattle.planner.proofs.Outcome.{outcome_accepted, outcome_refused, settled_planned, refused_for}
 use Rattle.planner.proofs.plan.Goals as goal
-use Rattle.planner.proofs.plan.Goals.{After-prepare-checked, In-Accepted}
-
--- what the lengths say is said of the buffers as they were lent
-lengths : (c : After-prepare-checked) →
-    c.check_buffers-lengths.result ≡ buffers_verdict (buffers c.args.cells.now c.args.decisions.now c.args.delays.now)
-lengths c = c.check_buffers-lengths.ensures
+use Rattle.planner.proofs.plan.Goals.{In-Accepted}
 
 -- the checks passed: the buffers have the right lengths and the sheet is accepted
 passed : (c : In-Accepted) →
@@ -32,7 +27,7 @@ passed c =
 -- every row is worked, so that no later row is left to ask for
 pub settle-requires : goal.settle-requires
 settle-requires c =
-    let checked = after_same _ (lengths (goal.at.settle-requires c).After-prepare-checked) c.prepare-checked.ensures in
+    let checked = after_same _ c.check_buffers-lengths.ensures c.prepare-checked.ensures in
     let answer = c.in-Accepted.is in
     let fine = taken_fine checked answer in (
       record {
@@ -51,8 +46,7 @@ unfolding plan_verdict
 returns-in-Refused c =
     let lent = buffers c.args.cells.now c.args.decisions.now c.args.delays.now in
     let left = c.refuse.ensures in
-    let checked = after_same _
-    (lengths (goal.at.returns-in-Refused c).After-prepare-checked) c.prepare-checked.ensures in
+    let checked = after_same _ c.check_buffers-lengths.ensures c.prepare-checked.ensures in
     let verdict = refused_verdict _ _ _ (sym c.in-Refused.is ∙ checked.answer) in
     rw left.0
     (outcome_refused _ _ lent _ _ (sym verdict)
@@ -62,8 +56,7 @@ returns-in-Refused c =
 pub returns-in-Accepted : goal.returns-in-Accepted
 unfolding plan_verdict line_of line_from
 returns-in-Accepted c =
-    let checked = after_same _
-    (lengths (goal.at.returns-in-Accepted c).After-prepare-checked) c.prepare-checked.ensures in
+    let checked = after_same _ c.check_buffers-lengths.ensures c.prepare-checked.ensures in
     let answer = c.in-Accepted.is in
     let fine = taken_fine checked answer in
     let lent = buffers c.args.cells.now c.args.decisions.now c.args.delays.now in

@@ -6,7 +6,7 @@ use Rattle.terms.proofs.Checks.{refused_not_fine}
 use Rattle.sheet.specs.Format.{trains_of}
 use Rattle.sheet.specs.Accepted.{AcceptedSheet}
 use Rattle.reader.proofs.ReadingOf.{refused_verdict}
-use Rattle.planner.specs.Buffers.{buffers, RightLengths, buffers_verdict}
+use Rattle.planner.specs.Buffers.{buffers, RightLengths}
 use Rattle.planner.specs.ReportChecks.{Reportable}
 use Rattle.planner.specs.Report.{report_verdict}
 use Rattle.planner.proofs.Refusals.{cells_of_fine, right_or_unwritten, after_lengths_verdict}
@@ -15,12 +15,7 @@ use Rattle.planner.proofs.Taken.{after_same, taken_fine, taken_trains}
 use Rattle.planner.proofs.Replacing.{delay_room, replaced_given, replaced_settled}
 use Rattle.planner.proofs.Outcome.{outcome_accepted, outcome_refused, refused_for}
 use Rattle.planner.proofs.report.Goals as goal
-use Rattle.planner.proofs.report.Goals.{After-check_report-checked, In-Accepted}
-
--- what the lengths say is said of the buffers as they were lent
-lengths : (c : After-check_report-checked) →
-    c.check_buffers-lengths.result ≡ buffers_verdict (buffers c.args.cells.now c.args.decisions.now c.args.delays.now)
-lengths c = c.check_buffers-lengths.ensures
+use Rattle.planner.proofs.report.Goals.{In-Accepted}
 
 -- the checks passed: the buffers have the right lengths, the sheet is accepted and so is the report
 passed : (c : In-Accepted) →
@@ -52,8 +47,7 @@ replace_delay-requires c =
 -- the later rows allow the work
 pub settle-requires : goal.settle-requires
 settle-requires c =
-    let checked = after_same _
-    (lengths (goal.at.settle-requires c).After-check_report-checked) c.check_report-checked.ensures in
+    let checked = after_same _ c.check_buffers-lengths.ensures c.check_report-checked.ensures in
     let answer = c.in-Accepted.is in
     let fine = taken_fine checked answer in
     let trains = taken_trains checked answer in
@@ -71,8 +65,7 @@ unfolding report_verdict
 returns-in-Refused c =
     let lent = buffers c.args.cells.now c.args.decisions.now c.args.delays.now in
     let left = c.refuse.ensures in
-    let checked = after_same _
-    (lengths (goal.at.returns-in-Refused c).After-check_report-checked) c.check_report-checked.ensures in
+    let checked = after_same _ c.check_buffers-lengths.ensures c.check_report-checked.ensures in
     let verdict = refused_verdict _ _ _ (sym c.in-Refused.is ∙ checked.answer) in
     rw left.0
     (record {
@@ -86,8 +79,7 @@ returns-in-Refused c =
 pub returns-in-Accepted : goal.returns-in-Accepted
 unfolding report_verdict
 returns-in-Accepted c =
-    let checked = after_same _
-    (lengths (goal.at.returns-in-Accepted c).After-check_report-checked) c.check_report-checked.ensures in
+    let checked = after_same _ c.check_buffers-lengths.ensures c.check_report-checked.ensures in
     let answer = c.in-Accepted.is in
     let fine = taken_fine checked answer in
     let ok = passed (goal.at.returns-in-Accepted c).In-Accepted in

@@ -31,7 +31,7 @@ work_row-cell-requires c =
       most = I.0.small;
     }
 
--- it has its place on the diagonal
+-- the train has its place on the diagonal
 pub bounds-diagonal-index : goal.bounds-diagonal-index
 bounds-diagonal-index c =
     let start = c.requires in

@@ -17,7 +17,7 @@ excess c = rw c.leaves.ensures at c.excess_on-excess.ensures
 pub choose-decision-requires : goal.choose-decision-requires
 choose-decision-requires c = step_chooses _ _ _ _ _ _ _ _ c.requires
 
--- it is no later than a train
+-- the excess is no later than a train
 pub arrives-requires : goal.arrives-requires
 arrives-requires c =
     let step = c.requires in

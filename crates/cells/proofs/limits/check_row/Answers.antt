@@ -15,7 +15,7 @@ cell_at-requires c =
     let start = c.requires in
     (start.0, c.loop-l.invariant.least, start.2, start.3)
 
--- it is not
+-- a cell within the limit passes: the columns after it are still to be checked
 pub loop-l-preserved : goal.loop-l-preserved
 unfolding cell_verdict
 loop-l-preserved c =

@@ -1,4 +1,4 @@
--- `sums::sum_column` meets its contract by the invariant beside this file.
+-- `sums::sum_column` meets its contract, by the invariant that stands in Invariants.antt.
 use mathlib.Core.Path.{ap, ◌∙◌}
 use Prim.Native.Nat.{◌≤◌}
 use native.Mathlib.Omega.{arith}

@@ -1,4 +1,4 @@
--- `sums::sum_columns` meets its contract by the invariant beside this file.
+-- `sums::sum_columns` meets its contract, by the invariant that stands in Invariants.antt.
 use borrow.Author.Rules.{rules}
 use native.Mathlib.Omega.{arith}
 use Rattle.prepare.proofs.Holding.{sums_none, sums_fewer}

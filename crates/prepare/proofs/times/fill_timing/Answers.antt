@@ -1,4 +1,4 @@
--- `times::fill_timing` meets its contract by the invariant beside this file.
+-- `times::fill_timing` meets its contract, by the invariant that stands in Invariants.antt.
 use borrow.Author.Rules.{rules}
 use native.Mathlib.Omega.{arith}
 use Rattle.prepare.specs.Preparing.{TrainGiven}

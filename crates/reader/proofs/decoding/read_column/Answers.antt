@@ -1,4 +1,4 @@
--- `read_column` meets its contract by the invariant beside this file.
+-- `read_column` meets its contract, by the invariant that stands in Invariants.antt.
 use mathlib.Core.Path.{◌≡◌}
 use Prim.Native.Nat.{◌+◌, ◌*◌}
 use native.Mathlib.Omega.{arith}

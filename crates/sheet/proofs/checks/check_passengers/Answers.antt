@@ -1,4 +1,4 @@
--- `checks::check_passengers` meets its contract by the invariant beside this file.
+-- `checks::check_passengers` meets its contract, by the invariant that stands in Invariants.antt.
 use mathlib.Core.Path.{refl}
 use native.Mathlib.Omega.{arith}
 use Rattle.terms.proofs.Checks.{search_first, search_next, search_stop, search_end, hit, miss, no_more}

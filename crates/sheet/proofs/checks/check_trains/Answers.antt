@@ -1,4 +1,4 @@
--- `checks::check_trains` meets its contract by the invariant beside this file.
+-- `checks::check_trains` meets its contract, by the invariant that stands in Invariants.antt.
 use native.Mathlib.Omega.{arith}
 use Rattle.terms.proofs.Checks.{search_first, search_next, search_stop, search_end}
 use Rattle.sheet.proofs.checks.check_trains.Goals as goal
