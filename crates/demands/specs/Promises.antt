@@ -26,9 +26,9 @@ pub record Promises : Type 0 where
   pub read_tells : (s : List ℕ) (before after : Lists) (a : Reading) → Read s before after a → ReadTells s before a
   pub write_tells : (G : Given) (before after : List ℕ) (a : Answer) → Write G before after a → WriteTells G before a
   -- cases a, b4, b6, b7 and b8
-  pub sheet_a_lem : AnswersA
-  pub sheet_b_lem : AnswersB
-  pub sheet_b13_lem : AnswersB13
+  pub plan_a : AnswersA
+  pub plan_b4 : AnswersB
+  pub plan_b6 : AnswersB13
   pub report_b7 : AnswersB7
   pub report_b8 : AnswersB8
   -- useless versions
