@@ -1,18 +1,18 @@
 -- From a sheet whose checks passed to what is settled on its times and sums: they make the book of the sheet's line, so
 -- that what is settled on them is settled for that line.
 -- Assumes nothing.
+use Rattle.terms.specs.Answer.{head}
 use mathlib.Core.Path.{◌≡◌, refl, ap, sym, subst, ◌∙◌}
 use mathlib.Core.List.{List}
 use Prim.Native.Nat.{ℕ}
-use Rattle.terms.specs.declared.Verdict.{Verdict}
-use Rattle.terms.specs.declared.Verdict.TheVariants.{Fine}
+use Rattle.std.specs.Prelude.{Ok}
+use Rattle.terms.specs.Verdict.{Verdict, Fine}
+use Rattle.reader.specs.Reading.{Reading}
 use Rattle.terms.specs.Verdict.{◌and_then◌}
 use Rattle.line.specs.Cells.{book_of}
 use Rattle.sheet.specs.Format.{trains_of, period_of}
 use Rattle.sheet.specs.Numbers.{Numbers}
 use Rattle.sheet.specs.Accepted.{InRange}
-use Rattle.reader.specs.declared.Reading.{Reading}
-use Rattle.reader.specs.declared.Reading.TheVariants.{Accepted}
 use Rattle.reader.proofs.ReadingOf.{accepted_fine}
 use Rattle.cells.specs.Book.{book_in, BookGiven}
 use Rattle.prepare.specs.LineOf.{line_of}
@@ -29,7 +29,7 @@ pub after_same : (w : Verdict) {v v' : Verdict} {s timing sums : List ℕ} {r : 
 after_same w e h = prepared_same (ap (λ (x : Verdict). x and_then w) e) refl h
 
 module _ {checks : Verdict} {s timing sums : List ℕ} {r : Reading} {m T : ℕ} (told : Prepared checks s timing sums r)
-    (answer : r ≡ Accepted m T) where
+    (answer : r ≡ Ok (head m T)) where
   passed : (checks ≡ Fine) × (m ≡ trains_of s) × (T ≡ period_of s)
   passed = accepted_fine checks _ _ (sym answer ∙ told.answer)
 

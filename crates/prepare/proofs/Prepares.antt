@@ -1,6 +1,7 @@
 -- From a sheet taken apart to its times and sums: what an accepted sheet left in the four lists is enough to fill them,
 -- and they then hold the sheet's own numbers.
 -- Assumes nothing.
+use Rattle.terms.specs.Answer.{head}
 use mathlib.Core.Path.{◌≡◌, sym, subst, ◌∙◌}
 use mathlib.Core.List.{List}
 use Prim.Native.Nat.{ℕ, ◌≤◌}
@@ -8,8 +9,9 @@ use native.Mathlib.Nat.{le_trans, le_of_eq}
 use native.Mathlib.Omega.{arith}
 use Rattle.lists.proofs.Choice.{below_yes}
 use Rattle.terms.specs.declared.Refusal.{Refusal}
-use Rattle.terms.specs.declared.Verdict.{Verdict}
-use Rattle.terms.specs.declared.Verdict.TheVariants.{Fine, Refused}
+use Rattle.std.specs.Prelude.{Ok, Err}
+use Rattle.terms.specs.Verdict.{Verdict, Fine}
+use Rattle.reader.specs.Reading.{Reading}
 use Rattle.terms.proofs.Checks.{refused_not_fine}
 use Rattle.sheet.specs.Format.{trains_of, period_of}
 use Rattle.sheet.specs.Numbers.{Lists, numbers_of, numbers_in, times_in}
@@ -19,8 +21,6 @@ use Rattle.sheet.specs.Accepted.{Lengths, InRange, SameNumbers}
 use Rattle.sheet.proofs.Lengths.{pairs_le}
 use Rattle.sheet.proofs.Facts.{accepted_of_fine}
 use Rattle.sheet.proofs.Meaning.{in_range_same}
-use Rattle.reader.specs.declared.Reading.{Reading}
-use Rattle.reader.specs.declared.Reading.TheVariants.{Accepted, Refused as ReadRefused}
 use Rattle.reader.specs.Decoded.{Decoded}
 use Rattle.reader.proofs.ReadingOf.{reading_refused, accepted_fine}
 use Rattle.reader.proofs.Decoded.{decoded_lengths, decoded_numbers}
@@ -29,7 +29,7 @@ use Rattle.prepare.specs.Preparing.{TrainGiven, pair_in, FieldsGiven}
 use Rattle.prepare.proofs.Holding.{timing_of_same, sums_of_same}
 
 module _ (s : List ℕ) (before after : Lists) (a : Reading) (decoded : Decoded s before after a)
-    (long : Lengths 64 2080 before) (m T : ℕ) (accepted : a ≡ Accepted m T) where
+    (long : Lengths 64 2080 before) (m T : ℕ) (accepted : a ≡ Ok (head m T)) where
   -- the checks let it pass
   passed : (sheet_verdict s ≡ Fine) × (m ≡ trains_of s) × (T ≡ period_of s)
   passed = accepted_fine _ _ _ (sym accepted ∙ decoded.answer)
@@ -80,7 +80,7 @@ module _ (s : List ℕ) (before after : Lists) (a : Reading) (decoded : Decoded 
   -- times and sums of the lists are those of the sheet
   pub prepared_accepted : (timing sums : List ℕ)
       → HoldsTimes m T (times_in after.departures after.driving after.delays) timing
-      → HoldsSums m (pair_in m after.passengers) sums → Prepared (sheet_verdict s) s timing sums (Accepted m T)
+      → HoldsSums m (pair_in m after.passengers) sums → Prepared (sheet_verdict s) s timing sums (Ok (head m T))
   unfolding pair_in passengers_of_pair
   prepared_accepted timing sums times leavers =
       record {
@@ -90,8 +90,8 @@ module _ (s : List ℕ) (before after : Lists) (a : Reading) (decoded : Decoded 
       }
 
 -- where the answer refuses, nothing is asked of the lists
-pub prepared_refused : (checks : Verdict) (s timing sums : List ℕ) (r : Refusal) → Refused r ≡ checks
-    → Prepared checks s timing sums (ReadRefused r)
+pub prepared_refused : (checks : Verdict) (s timing sums : List ℕ) (r : Refusal) → Err r ≡ checks
+    → Prepared checks s timing sums (Err r)
 prepared_refused checks s timing sums r e =
     record {
       answer = reading_refused _ _ _ e;

@@ -6,15 +6,15 @@ use mathlib.Core.Logic.{inl, inr}
 use Prim.Native.Nat.{ℕ}
 use native.Mathlib.Omega.{arith}
 use Rattle.terms.specs.declared.Refusal.{Refusal}
-use Rattle.terms.specs.declared.Verdict.TheVariants.{Fine}
+use Rattle.std.specs.Prelude.{Err}
+use Rattle.terms.specs.Verdict.{Fine}
+use Rattle.reader.specs.Reading.{Reading}
 use Rattle.terms.proofs.Checks.{fine_or_refused, refused_not_fine, then_stop, then_pass, then_fine}
 use Rattle.sheet.specs.Format.{trains_of, period_of, bytes_of}
 use Rattle.sheet.specs.Numbers.{Lists, numbers_of, numbers_in}
 use Rattle.sheet.specs.Checks.{head_verdict, body_verdict, sheet_verdict}
 use Rattle.sheet.specs.Accepted.{Lengths, SameNumbers}
 use Rattle.sheet.proofs.Facts.{headed_of_fine}
-use Rattle.reader.specs.declared.Reading.{Reading}
-use Rattle.reader.specs.declared.Reading.TheVariants.{Refused as ReadRefused}
 use Rattle.reader.specs.Reading.{reading_of}
 use Rattle.reader.specs.Decoded.{Head, ColumnsRead, Decoded}
 use Rattle.reader.proofs.ReadingOf.{reading_refused, refused_verdict}
@@ -56,7 +56,7 @@ decode_one s before after after' a a' g h = (
 
 module _ (s : List ℕ) (before : Lists) {a : Reading} where
   -- a head that is refused
-  pub decoded_head_refused : {r : Refusal} → a ≡ ReadRefused r
+  pub decoded_head_refused : {r : Refusal} → a ≡ Err r
       → a ≡ reading_of (head_verdict s) (trains_of s) (period_of s) → Decoded s before before a
   unfolding sheet_verdict
   decoded_head_refused p e =

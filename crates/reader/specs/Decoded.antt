@@ -9,14 +9,15 @@ use Rattle.std.specs.Prelude.{ℕ, ◌+◌, ◌*◌, ◌≤◌, ◌<◌, ◌≡�
 use Rattle.lists.specs.Filled.{Filled}
 use Rattle.bits.specs.Field.{Within}
 use Rattle.terms.specs.declared.Refusal.{Refusal}
-use Rattle.terms.specs.declared.Verdict.TheVariants.{Fine, Refused}
+use Rattle.std.specs.Prelude.{Err}
+use Rattle.terms.specs.Verdict.{Fine}
+use Rattle.reader.specs.Reading.{Reading}
 use Rattle.sheet.specs.declared.format.Column.{Column}
 use Rattle.sheet.specs.Format.{trains_of, period_of, departure_column, driving_column, delay_column, passenger_column}
 use Rattle.sheet.specs.Format.{entry, bytes_of, pairs_of}
 use Rattle.sheet.specs.Numbers.{Lists, numbers_of, numbers_in}
 use Rattle.sheet.specs.Checks.{head_verdict, sheet_verdict}
 use Rattle.sheet.specs.Accepted.{Lengths, SameNumbers}
-use Rattle.reader.specs.declared.Reading.{Reading}
 use Rattle.reader.specs.Reading.{reading_of}
 
 -- n places of the column lie in the sheet, and a list of `size` has room for them
@@ -49,4 +50,4 @@ pub record ColumnsRead (s : List ℕ) (before after : Lists) : Type 0 where
 pub record Decoded (s : List ℕ) (before after : Lists) (a : Reading) : Type 0 where
   pub answer : a ≡ reading_of (sheet_verdict s) (trains_of s) (period_of s)
   pub filled : head_verdict s ≡ Fine → ColumnsRead s before after
-  pub kept : (q : Refusal) → head_verdict s ≡ Refused q → after ≡ before
+  pub kept : (q : Refusal) → head_verdict s ≡ Err q → after ≡ before

@@ -4,7 +4,7 @@ use Prim.Native.Nat.{ℕ}
 use native.Mathlib.Omega.{arith}
 use Rattle.terms.specs.declared.ListFault.TheVariants.{ListLength}
 use Rattle.terms.specs.declared.Refusal.TheVariants.{OfList}
-use Rattle.terms.specs.declared.Verdict.TheVariants.{Fine}
+use Rattle.terms.specs.Verdict.{Fine}
 use Rattle.terms.proofs.Checks.{unlike, fine_of_passed, then_stop, then_pass}
 use Rattle.sheet.specs.Format.{pairs_of}
 use Rattle.sheet.specs.Numbers.{lists}

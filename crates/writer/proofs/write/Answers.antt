@@ -4,7 +4,7 @@ use Prim.Native.Nat.{◌≤◌}
 use native.Mathlib.Omega.{arith}
 use lib.ListN.{length}
 use lib.Seq.{length-take-le}
-use Rattle.terms.specs.declared.Verdict.TheVariants.{Fine}
+use Rattle.terms.specs.Verdict.{Fine}
 use Rattle.sheet.specs.Numbers.{lists}
 use Rattle.sheet.proofs.Lengths.{bytes_le}
 use Rattle.writer.specs.Write.{given, write_verdict}

@@ -1,6 +1,6 @@
 -- `decode` meets its contract: the head's refusal if there is one, else the columns and the body's verdict.
 use mathlib.Core.Path.{◌≡◌, refl, sym, ◌∙◌}
-use Rattle.terms.specs.declared.Verdict.TheVariants.{Fine}
+use Rattle.terms.specs.Verdict.{Fine}
 use Rattle.sheet.specs.Format.{trains_of, period_of}
 use Rattle.sheet.specs.Checks.{head_verdict}
 use Rattle.reader.proofs.ReadingOf.{reading_refused, reading_accepted, accepted_fine}

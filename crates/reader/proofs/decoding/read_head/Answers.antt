@@ -1,7 +1,7 @@
 -- `read_head` meets its contract: each answer is the first check that refuses.
 use mathlib.Core.Path.{◌≡◌, refl, sym, ap, ap₂, ◌∙◌}
 use native.Mathlib.Omega.{arith}
-use Rattle.terms.specs.declared.Verdict.TheVariants.{Fine}
+use Rattle.terms.specs.Verdict.{Fine}
 use Rattle.terms.proofs.Checks.{hit, miss, no_more, fine_of_passed, then_stop, then_pass}
 use Rattle.sheet.specs.Format.{trains_of, period_of, bytes_of}
 use Rattle.sheet.specs.Checks.{ranges_verdict, head_verdict}
