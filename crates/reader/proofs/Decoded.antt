@@ -16,8 +16,8 @@ use Rattle.sheet.specs.Checks.{head_verdict, body_verdict, sheet_verdict}
 use Rattle.sheet.specs.Accepted.{Lengths, SameNumbers}
 use Rattle.sheet.proofs.Facts.{headed_of_fine}
 use Rattle.reader.specs.Reading.{reading_of}
-use Rattle.reader.specs.Decoded.{Head, ColumnsRead, Decoded}
-use Rattle.reader.proofs.ReadingOf.{reading_refused, refused_verdict}
+use Rattle.reader.specs.Decoded.{HeadRead, ColumnsRead, Decoded}
+use Rattle.terms.proofs.Answers.{answer_refused, refused_answer}
 use Rattle.reader.proofs.Columns.{columns_lengths, columns_numbers, columns_one}
 
 -- ---- for those who call it
@@ -60,9 +60,9 @@ module _ (s : List ℕ) (before : Lists) {a : Reading} where
       → a ≡ reading_of (head_verdict s) (trains_of s) (period_of s) → Decoded s before before a
   unfolding sheet_verdict
   decoded_head_refused p e =
-      let refused = refused_verdict (head_verdict s) _ _ (sym p ∙ e) in
+      let refused = refused_answer (head_verdict s) _ (sym p ∙ e) in
       record {
-        answer = p ∙ reading_refused _ _ _ (then_stop _ _ refl (sym refused));
+        answer = p ∙ answer_refused _ _ (then_stop _ _ refl (sym refused));
         filled = λ fine. refused_not_fine (sym refused ∙ fine);
         kept = λ q r. refl;
       }
@@ -80,7 +80,7 @@ module _ (s : List ℕ) (before : Lists) {a : Reading} where
       }
 
 -- a head that passed has the length that m demands
-pub head_of_fine : (s : List ℕ) (m : ℕ) → head_verdict s ≡ Fine → m ≡ trains_of s → Head s m
+pub head_of_fine : (s : List ℕ) (m : ℕ) → head_verdict s ≡ Fine → m ≡ trains_of s → HeadRead s m
 head_of_fine s m fine e =
     let h = headed_of_fine s fine in
     record {

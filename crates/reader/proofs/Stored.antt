@@ -1,6 +1,5 @@
 -- What read leaves, refused and accepted; what its answer carries; and that its promise leaves nothing open.
 -- Assumes nothing.
-use Rattle.terms.specs.Answer.{head}
 use mathlib.Core.Path.{◌≡◌, refl, sym, ap, subst, ◌∙◌}
 use mathlib.Core.List.{List}
 use Prim.Native.Nat.{ℕ}
@@ -20,7 +19,9 @@ use Rattle.terms.specs.Answer.{answer_number, answer_place}
 use Rattle.reader.specs.Reading.{read_trains, read_period, reading_of}
 use Rattle.reader.specs.Decoded.{Decoded}
 use Rattle.reader.specs.Read.{read_verdict, Read, ReadTells}
-use Rattle.reader.proofs.ReadingOf.{reading_refused, accepted_fine, refused_verdict, reading_carries}
+use Rattle.terms.specs.declared.Head.{Head}
+use Rattle.terms.proofs.Answers.{answer_refused, accepted_answer, refused_answer, answer_number_lem, answer_place_lem}
+use Rattle.reader.proofs.ReadingOf.{read_trains_lem, read_period_lem}
 use Rattle.reader.proofs.Decoded.{decoded_columns}
 
 -- a refusal changes nothing
@@ -28,7 +29,7 @@ pub read_refused : (s : List ℕ) (before : Lists) {a : Reading} {r : Refusal} �
     → Err r ≡ read_verdict s before → Read s before before a
 read_refused s before p e =
     record {
-      answer = p ∙ reading_refused _ _ _ e;
+      answer = p ∙ answer_refused _ _ e;
       departures = if_refused _ _ _ e;
       driving = if_refused _ _ _ e;
       delays = if_refused _ _ _ e;
@@ -51,13 +52,13 @@ module _ (s : List ℕ) (before : Lists) (room : Lengths 64 2080 before) where
   pub read_of_refused : {a : Reading} {r : Refusal} → a ≡ reading_of (sheet_verdict s) (trains_of s) (period_of s)
       → a ≡ Err r → Read s before before a
   read_of_refused e p =
-      read_refused s before p (sym (refused_verdict (sheet_verdict s) _ _ (sym p ∙ e)) ∙ sheet_decides)
+      read_refused s before p (sym (refused_answer (sheet_verdict s) _ (sym p ∙ e)) ∙ sheet_decides)
 
   -- it is accepted, and what was decoded into lists of zeros is copied
-  pub read_of_accepted : {a : Reading} {m T : ℕ} (got after : Lists) → Decoded s zeros got a → a ≡ Ok (head m T)
+  pub read_of_accepted : {a : Reading} {h : Head} (got after : Lists) → Decoded s zeros got a → a ≡ Ok h
       → after ≡ got → Read s before after a
   read_of_accepted {a} got after h p same =
-      let fine = (accepted_fine (sheet_verdict s) _ _ (sym p ∙ h.answer)).0 in
+      let fine = (accepted_answer (sheet_verdict s) _ (sym p ∙ h.answer)).0 in
       let e = sym fine ∙ sheet_decides in
       let columns = decoded_columns s zeros got a h fine in
       subst (λ (L : Lists). Read s before L a) (sym same)
@@ -73,12 +74,12 @@ module _ (s : List ℕ) (before : Lists) (room : Lengths 64 2080 before) where
 
 pub read_tells : {s : List ℕ} {before after : Lists} {a : Reading} → Read s before after a → ReadTells s before a
 read_tells {s} {before} h =
-    let carries = reading_carries (read_verdict s before) (trains_of s) (period_of s) in
+    let v : Verdict = read_verdict s before in
     record {
-      number = ap answer_number h.answer ∙ carries.0;
-      place = ap answer_place h.answer ∙ carries.1;
-      trains = ap read_trains h.answer ∙ carries.2;
-      period = ap read_period h.answer ∙ carries.3;
+      number = ap answer_number h.answer ∙ answer_number_lem v _;
+      place = ap answer_place h.answer ∙ answer_place_lem v _;
+      trains = ap read_trains h.answer ∙ read_trains_lem v (trains_of s) (period_of s);
+      period = ap read_period h.answer ∙ read_period_lem v (trains_of s) (period_of s);
     }
 
 -- two outcomes that keep read's promise are equal

@@ -1,6 +1,6 @@
 -- What taking a sheet apart needs and leaves. Document 01, "Four operations", read: fields first.
 --   ColumnRoom s c n size        n places of the column c can be read from the sheet s into a list of `size` numbers
---   Head s m                     the sheet s has m trains and the length that m demands
+--   HeadRead s m                 the sheet s has m trains and the length that m demands
 --   Body s m L                   behind such a head, the numbers of the sheet stand in the lists L
 --   ColumnsRead s before after   the lists hold the sheet's columns, fields first, the other places as before
 --   Decoded s before after a     what decode answers for the sheet s, and what it leaves of the lists
@@ -26,7 +26,7 @@ pub record ColumnRoom (s : List ℕ) (c : Column) (n size : ℕ) : Type 0 where
   pub within : (k : ℕ) → k < n → Within s (c.first + c.step * k) c.width
 
 -- the sheet has m trains and the length that m demands
-pub record Head (s : List ℕ) (m : ℕ) : Type 0 where
+pub record HeadRead (s : List ℕ) (m : ℕ) : Type 0 where
   pub trains : m ≡ trains_of s
   pub least : 1 ≤ m
   pub most : m ≤ 64
@@ -34,7 +34,7 @@ pub record Head (s : List ℕ) (m : ℕ) : Type 0 where
 
 -- behind such a head, the numbers of the sheet stand in the lists
 pub record Body (s : List ℕ) (m : ℕ) (L : Lists) : Type 0 where
-  pub head : Head s m
+  pub head : HeadRead s m
   pub lengths : Lengths 64 2080 L
   pub numbers : SameNumbers (numbers_in m (period_of s) L) (numbers_of s)
 

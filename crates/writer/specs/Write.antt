@@ -45,7 +45,7 @@ pub record Accepts (room : ℕ) (G : Given) : Type 0 where
   pub lengths : Lengths G.trains (pairs_of G.trains) G.lists
   pub range : InRange (numbers_given G)
 
--- accepted: the sheet first, the rest unchanged; its length is returned. Err: nothing changed, length 0
+-- accepted: the sheet first, the rest unchanged; its length is returned. Refused: nothing changed, length 0
 pub record Write (G : Given) (before after : List ℕ) (a : Answer) : Type 0 where
   pub answer : a ≡ answer_of (write_verdict (length before) G) (bytes_of G.trains)
   pub sheet : write_verdict (length before) G ≡ Fine → SheetOf (numbers_given G) (take (bytes_of G.trains) after)
