@@ -30,7 +30,7 @@ use Rattle.writer.specs.Write.{Given, numbers_given, write_verdict, Write, Accep
 use Rattle.writer.proofs.Facts.{accepts_of_fine, fine_of_accepts}
 use Rattle.reader.specs.Reading.{reading_of}
 use Rattle.reader.specs.Read.{read_verdict, Read}
-use Rattle.reader.proofs.ReadingOf.{accepted_fine}
+use Rattle.reader.proofs.ReadingOf.{accepted_reading}
 use Rattle.demands.specs.OneMeaning.{given_from, ReadThenWrite, WriteThenRead, EqualFields}
 
 pub equal_fields : EqualFields
@@ -63,7 +63,7 @@ record Got (s : List ℕ) (after : Lists) (m T : ℕ) : Type 0 where
 got : (s : List ℕ) (before after : Lists) (m T : ℕ) → Read s before after (Ok (head m T)) → Got s after m T
 unfolding read_verdict
 got s before after m T h =
-    let told = accepted_fine (read_verdict s before) _ _ h.answer in
+    let told = accepted_reading (read_verdict s before) _ _ h.answer in
     let fine = (then_fine _ (sheet_verdict s) told.0).1 in
     record {
       ok = accepted_of_fine s fine;

@@ -11,7 +11,6 @@ use lib.ListN.{length}
 use Rattle.lists.specs.Run.{nth}
 use Rattle.lists.proofs.Order.{same_or_not}
 use Rattle.terms.specs.declared.Refusal.{Refusal}
-use Rattle.std.specs.Prelude.{Result}
 use Rattle.terms.specs.Verdict.{Verdict}
 use Rattle.terms.specs.Answer.{Answer}
 use Rattle.terms.specs.Answer.{answer_number, answer_place, answer_carries}

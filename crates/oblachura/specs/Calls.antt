@@ -18,12 +18,12 @@ use Rattle.reader.specs.Read.{Read}
 use Rattle.planner.specs.Buffers.{Buffers}
 use Rattle.planner.specs.Plan.{Plan}
 use Rattle.planner.specs.Report.{Report}
-use Rattle.oblachura.specs.AnswerNumbers.{answer_numbers, answer_numbers}
+use Rattle.oblachura.specs.AnswerNumbers.{read_numbers, answer_numbers}
 use Rattle.oblachura.specs.Call.{Call}
 
 -- number, place, m and T
 abbrev pub ReadCall : List ℕ → Lists → List ℕ → Lists → List ℕ → ℕ → Type 0
-ReadCall s before = Call 4 answer_number answer_numbers (Read s before) before
+ReadCall s before = Call 4 answer_number read_numbers (Read s before) before
 
 -- number, place and length
 abbrev pub WriteCall : Given → List ℕ → List ℕ → List ℕ → List ℕ → ℕ → Type 0
