@@ -41,10 +41,9 @@ module _ (s : List ℕ) (m : ℕ) (h : HeadRead s m) where
       }
 
 -- the lists have room for what the checks of m trains read
-pub body_room : (s : List ℕ) (m : ℕ) (L : Lists) → Body s m L → Room m L
-body_room s m L h =
+pub body_room : (s : List ℕ) (m : ℕ) (L : Lists) → Body s m L → Lengths 64 2080 L → Room m L
+body_room s m L h long =
     let n = h.head.most in
-    let long = h.lengths in
     record {
       trains = record {
         least = h.head.least;

@@ -35,7 +35,6 @@ pub record HeadRead (s : List ℕ) (m : ℕ) : Type 0 where
 -- behind such a head, the numbers of the sheet stand in the lists
 pub record Body (s : List ℕ) (m : ℕ) (L : Lists) : Type 0 where
   pub head : HeadRead s m
-  pub lengths : Lengths 64 2080 L
   pub numbers : SameNumbers (numbers_in m (period_of s) L) (numbers_of s)
 
 -- the fields of the sheet stand first in the lists, and the other places are as before

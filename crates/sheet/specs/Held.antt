@@ -2,8 +2,8 @@
 --   lent l, times_lent l   those of four lent lists, and of them the times
 --   held c                 those of four lists with room for any line
 -- Assumes nothing.
-use Rattle.sheet.specs.declared.lists.Lists.{Lists as LentLists}
-use Rattle.sheet.specs.declared.lists.Columns.{Columns}
+use Rattle.sheet.specs.declared.numbers.Lists.{Lists as LentLists}
+use Rattle.sheet.specs.declared.numbers.Columns.{Columns}
 use Rattle.sheet.specs.Numbers.{Times, Lists, lists, times_in}
 
 abbrev pub lent : LentLists → Lists

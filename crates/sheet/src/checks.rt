@@ -10,7 +10,7 @@ ghost use Rattle.sheet.specs.Checks.{train_verdict, passengers_verdict, numbers_
 ghost use Rattle.sheet.specs.Checks.{TrainRoom, Room};
 
 use crate::format::pairs_of;
-use crate::lists::Lists;
+use crate::numbers::Lists;
 use terms::{HeadFault, Refusal, Train, TrainFault, Verdict};
 
 // The lengths of four lists: `n` for each of the trains' three, `k` for the passengers'.

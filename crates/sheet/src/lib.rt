@@ -4,4 +4,4 @@
 
 pub mod checks;
 pub mod format;
-pub mod lists;
+pub mod numbers;

@@ -1,6 +1,8 @@
 // The numbers of a line in four lists: departures, driving times and source delays by train, and the
 // passengers by pair.
 ghost use Rattle.std.specs.Prelude.{◌≡◌, replicate};
+ghost use Rattle.sheet.specs.Accepted.{Lengths};
+ghost use Rattle.sheet.specs.Held.{lent};
 
 // Four lists lent to be read.
 #[derive(Clone, Copy)]
@@ -41,6 +43,7 @@ impl Columns {
         ensures driving { result.driving.now ≡ self.now.driving }
         ensures delays { result.delays.now ≡ self.now.delays }
         ensures passengers { result.passengers.now ≡ self.now.passengers }
+        ensures long { Lengths 64 2080 (lent result) }
     {
         Lists {
             departures: &self.departures,
