@@ -11,7 +11,7 @@ ghost use Rattle.sheet.specs.Checks.{TrainRoom, Room};
 
 use crate::format::pairs_of;
 use crate::numbers::Lists;
-use terms::{HeadFault, Refusal, Train, TrainFault, Verdict};
+use terms::{Head, HeadFault, Refusal, Train, TrainFault, Verdict};
 
 // The lengths of four lists: `n` for each of the trains' three, `k` for the passengers'.
 #[tactic(auto, unfolding(crate::specs::Checks::lengths_verdict, terms::specs::Verdict::verdict_of, lists::specs::Choice::if_same))]
@@ -35,19 +35,19 @@ pub fn check_lengths(refusal: Refusal, n: usize, k: usize, given: Lists) -> Verd
 
 // The number of trains and the period.
 #[tactic(auto, unfolding(crate::specs::Checks::ranges_verdict, terms::specs::Verdict::verdict_of, lists::specs::Choice::if_below))]
-pub fn check_ranges(m: u32, period: u32) -> Verdict
-    ensures { result ≡ ranges_verdict m period }
+pub fn check_ranges(head: Head) -> Verdict
+    ensures { result ≡ ranges_verdict head.trains head.period }
 {
-    if m < 1 {
+    if head.trains < 1 {
         return Err(Refusal::OfHead(HeadFault::TrainCount));
     }
-    if 64 < m {
+    if 64 < head.trains {
         return Err(Refusal::OfHead(HeadFault::TrainCount));
     }
-    if period < 1 {
+    if head.period < 1 {
         return Err(Refusal::OfHead(HeadFault::Period));
     }
-    if 1440 < period {
+    if 1440 < head.period {
         return Err(Refusal::OfHead(HeadFault::Period));
     }
     Ok(())
