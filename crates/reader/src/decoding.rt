@@ -67,6 +67,7 @@ fn read_columns(sheet: &[u8], m: usize, columns: &mut Columns)
 }
 
 // The filling bits.
+#[tactic(auto, unfolding(sheet::specs::Checks::filling_verdict, sheet::specs::Format::filling_of, terms::specs::Verdict::verdict_of, lists::specs::Choice::if_below))]
 fn check_filling(sheet: &[u8], m: usize) -> Verdict
     requires { HeadRead sheet.now m }
     ensures { result ≡ filling_verdict sheet.now }

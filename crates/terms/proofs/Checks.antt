@@ -1,5 +1,5 @@
 -- Laws of checks in their order, as a function that answers a verdict uses them: a test that refused is the answer
--- (`hit`, `unlike`), a test that passed leaves the rest (`miss`, `alike`); and a list of checks is fine exactly when
+-- (`hit`, `unlike`), a test that passed leaves the rest (`miss`); and a list of checks is fine exactly when
 -- each of them passes.
 --   Passes c, refusal_of c   the check c finds nothing; what it refuses for
 --   Passed checks            each of them passes
@@ -122,18 +122,9 @@ pub unlike : (r : Refusal) (a b : ℕ) (rest : List Check) → (a ≡ b → ⊥)
 unfolding verdict_of
 unlike r a b rest n = sym (same_no _ _ n)
 
-pub alike : (r : Refusal) (a b : ℕ) (rest : List Check) (w : Verdict) → a ≡ b → w ≡ verdict_of rest
-    → w ≡ verdict_of ((refuse r unless a is b) ∷ rest)
-unfolding verdict_of
-alike r a b rest w q e = e ∙ sym (same_yes _ _ q)
-
 pub no_more : Fine ≡ verdict_of []
 unfolding verdict_of
 no_more = refl
-
--- `search chain depth n` answers a function's returns, n being one more than its tests: those that led there say which
--- check is the first to refuse
-pub ruleset chain = (rules, hit, miss, unlike, alike, no_more)
 
 -- ---- a loop that looks for the first refusal of n checks, from check a on
 
