@@ -116,9 +116,9 @@ fn check_passengers(n: usize, passengers: &[u32]) -> Verdict
     requires { (n ≤ 2080) × (n ≤ length passengers.now) }
     ensures { result ≡ first_of (passengers_verdict (nth passengers.now)) 1 n }
 {
-    for f in 1..=n {
-        if 10000 < passengers[f - 1] {
-            return Err(Refusal::Passengers(f as u32));
+    for (k, count) in passengers[..n].iter().enumerate() {
+        if 10000 < *count {
+            return Err(Refusal::Passengers(k as u32 + 1));
         }
     }
     Ok(())
