@@ -6,6 +6,7 @@ ghost use Rattle.std.specs.Prelude.{◌≡◌, ◌*◌, ◌^◌, ◌<◌, length
 ghost use Rattle.bits.specs.Field.{bit_at, field_of, Within, BitPut, Put};
 
 // Bit `i` of the bytes, the most significant bit of byte 0 being bit 0.
+#[tactic(auto, unfolding(crate::specs::Field::bit_at))]
 fn bit(bytes: &[u8], i: usize) -> u32
     requires { i < 8 * length bytes.now }
     ensures { result ≡ bit_at bytes.now i }
@@ -16,20 +17,20 @@ fn bit(bytes: &[u8], i: usize) -> u32
 }
 
 // The number held by the `width` bits from bit `at`.
+#[tactic(auto, using(crate::proofs::Fields::field_none, crate::proofs::Fields::field_more, crate::proofs::Fields::field_small, crate::proofs::Fields::bit_lt))]
 pub fn field(bytes: &[u8], at: usize, width: usize) -> u32
     requires { Within bytes.now at width }
     ensures { result ≡ field_of bytes.now at width }
 {
     let mut number: u32 = 0;
-    let mut k: usize = 0;
-    while k < width {
+    for k in 0..width {
         number = number * 2 + bit(bytes, at + k);
-        k += 1;
     }
     number
 }
 
 // `byte` with its bit of weight 2 ^ k replaced by `b`.
+#[tactic(auto, using(crate::proofs::Bytes::machine))]
 fn with_bit(byte: u8, k: usize, b: u32) -> u8
     requires { (k < 8) × (b < 2) }
     ensures { BitPut byte k b result }
@@ -54,11 +55,9 @@ pub fn put(bytes: &mut [u8], at: usize, width: usize, value: u32)
     requires { Within bytes.old at width × (value < 2 ^ width) }
     ensures { Put bytes.old at width value bytes.new }
 {
-    let mut left = width;
     let mut rest = value;
-    while 0 < left {
-        left -= 1;
-        put_bit(bytes, at + left, rest % 2);
+    for k in (0..width).rev() {
+        put_bit(bytes, at + k, rest % 2);
         rest = rest / 2;
     }
 }
