@@ -72,3 +72,6 @@ same_bits s t at (suc w) e i l =
 -- a field lies as well within other bytes of the same length
 pub within_same : {s t : List ℕ} {at w : ℕ} → Within s at w → length t ≡ length s → Within t at w
 within_same h e = record { inside = omega (arith, h.inside); narrow = h.narrow; near = h.near }
+
+-- what a loop that reads a field bit by bit needs
+pub ruleset reading = (field_none, field_more, field_small, bit_lt)

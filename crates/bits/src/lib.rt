@@ -17,7 +17,7 @@ fn bit(bytes: &[u8], i: usize) -> u32
 }
 
 // The number held by the `width` bits from bit `at`.
-#[tactic(auto, using(crate::proofs::Fields::field_none, crate::proofs::Fields::field_more, crate::proofs::Fields::field_small, crate::proofs::Fields::bit_lt))]
+#[tactic(auto, using(crate::proofs::Fields::reading))]
 pub fn field(bytes: &[u8], at: usize, width: usize) -> u32
     requires { Within bytes.now at width }
     ensures { result ≡ field_of bytes.now at width }

@@ -12,7 +12,6 @@ ghost use Rattle.reader.specs.Reading.{read_number, read_place, read_trains, rea
 ghost use Rattle.reader.specs.Read.{Read};
 
 use crate::decoding::decode;
-use lists::copy_u32;
 use sheet::checks::check_lengths;
 use terms::{ListFault, Refusal, Verdict};
 
@@ -97,10 +96,10 @@ fn read_sheet(
     if let Reading::Refused(_) = answer {
         return answer;
     }
-    copy_u32(departures, &new_departures);
-    copy_u32(driving, &new_driving);
-    copy_u32(delays, &new_delays);
-    copy_u32(passengers, &new_passengers);
+    departures.copy_from_slice(&new_departures);
+    driving.copy_from_slice(&new_driving);
+    delays.copy_from_slice(&new_delays);
+    passengers.copy_from_slice(&new_passengers);
     answer
 }
 

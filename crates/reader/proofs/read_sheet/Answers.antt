@@ -13,5 +13,5 @@ pub returns : goal.returns
 returns c =
     read_of_accepted _ _ c.requires _ _ c.decode-answer.ensures c.in_default.is
     (λ i.
-    lists (c.copy_u32.ensures i) (c.copy_u32-2.ensures i) (c.copy_u32-3.ensures i)
-    (c.copy_u32-4.ensures i))
+    lists (c.copy_from_slice.ensures.after i) (c.copy_from_slice-2.ensures.after i)
+    (c.copy_from_slice-3.ensures.after i) (c.copy_from_slice-4.ensures.after i))
