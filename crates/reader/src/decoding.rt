@@ -51,8 +51,8 @@ fn read_column(list: &mut [u32], sheet: &[u8], column: Column, n: usize)
     let first = column.first;
     let step = column.step;
     let width = column.width;
-    for k in 0..n {
-        list[k] = field(sheet, first + step * k, width);
+    for (k, place) in list[..n].iter_mut().enumerate() {
+        *place = field(sheet, first + step * k, width);
     }
 }
 

@@ -11,7 +11,6 @@ use bits::put;
 use sheet::format::{Column, PERIOD_AT, PERIOD_WIDTH, TRAINS_AT, TRAINS_WIDTH, bits_of};
 
 // The first `n` places of the column become those of `list`.
-#[tactic(auto, using(crate::proofs::Columns::column_next))]
 fn put_column(sheet: &mut [u8], column: Column, n: usize, list: &[u32])
     requires { PutRoom sheet.old column n list.now }
     ensures { ColumnPut sheet.old column n list.now
@@ -20,8 +19,8 @@ fn put_column(sheet: &mut [u8], column: Column, n: usize, list: &[u32])
     let first = column.first;
     let step = column.step;
     let width = column.width;
-    for k in 0..n {
-        put(sheet, first + step * k, width, list[k]);
+    for (k, number) in list[..n].iter().enumerate() {
+        put(sheet, first + step * k, width, *number);
     }
 }
 
