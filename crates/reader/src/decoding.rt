@@ -48,11 +48,8 @@ fn read_column(list: &mut [u32], sheet: &[u8], column: Column, n: usize)
     ensures { Filled 0 (entry sheet.now column) n list.old
         list.new }
 {
-    let first = column.first;
-    let step = column.step;
-    let width = column.width;
     for (k, place) in list[..n].iter_mut().enumerate() {
-        *place = field(sheet, first + step * k, width);
+        *place = field(sheet, column.first + column.step * k, column.width);
     }
 }
 

@@ -16,11 +16,8 @@ fn put_column(sheet: &mut [u8], column: Column, n: usize, list: &[u32])
     ensures { ColumnPut sheet.old column n list.now
         sheet.new }
 {
-    let first = column.first;
-    let step = column.step;
-    let width = column.width;
     for (k, number) in list[..n].iter().enumerate() {
-        put(sheet, first + step * k, width, *number);
+        put(sheet, column.first + column.step * k, column.width, *number);
     }
 }
 
