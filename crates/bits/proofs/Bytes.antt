@@ -12,7 +12,7 @@ use lib.Dec.{T, ltb, ltb→lt, lit<, lit≤}
 use lib.ListN.{length, get_or}
 use lib.Pow.{pow_pos, pow-add, field, mod-mod-pow, shr-shr, shr_lt, shl_exact, high, low, are_bytes}
 use lib.Seq.{ext_get_or}
-use Rattle.lists.proofs.Order.{lt_or_ge}
+use Rattle.std.proofs.lemmas.Bool.{cases_lt}
 use Rattle.bits.specs.Field.{bit_at, field_of, BitPut, Bytes}
 use Rattle.bits.proofs.Fields.{field_same, same_bits}
 
@@ -57,7 +57,7 @@ module _ (x k b : ℕ) (hb : b < 2) where
       (λ (l : j < k). low_same x (with_bit x k b) j k l with_low)
       (λ (l : k ≤ j).
       ap (λ (n : ℕ). n % 2) (high_same x (with_bit x k b) j k (omega arith) (rw with_high (omega arith))))
-      (lt_or_ge j k)
+      (cases_lt j k)
 
   with_bit_put : BitPut x k b (with_bit x k b)
   with_bit_put = record { holds = rw with_high (omega arith); others = with_other }

@@ -11,7 +11,7 @@ use native.Mathlib.Omega.{arith}
 use lib.Pow.{pow_pos, shr_lt}
 use lib.ListN.{length, get_or, set, length-set}
 use lib.Seq.{get_or-set_same, get_or-set_other}
-use Rattle.lists.proofs.Order.{lt_or_ge}
+use Rattle.std.proofs.lemmas.Bool.{cases_lt}
 use Rattle.bits.specs.Field.{bit_at, field_of, Apart, Put, BitPut, Bytes}
 use Rattle.bits.proofs.Fields.{field_none, field_bit, field_split, field_same, same_bits}
 use Rattle.bits.proofs.Bytes.{machine, bytes_ext}
@@ -73,8 +73,8 @@ put_unique {s} {t} {u} {at} {w} g h bt bu =
     let e : at + (i - at) ≡ i = omega arith in
     subst (λ (j : ℕ). bit_at t j ≡ bit_at u j) e (same_bits t u at w (g.holds ∙ sym h.holds) (i - at) (omega arith)))
     (λ (q : at + w ≤ i). away (inr q))
-    (lt_or_ge i (at + w)))
-    (lt_or_ge i at))
+    (cases_lt i (at + w)))
+    (cases_lt i at))
 
 -- ---- a number that fits its field can be put
 

@@ -11,7 +11,7 @@ use lib.ListN.{length, get_or, set, length-set, replicate, length-replicate, get
 use lib.Seq.{ext_get_or, get_or-set_same, get_or-set_other}
 use Rattle.lists.specs.Run.{padded}
 use Rattle.lists.specs.Filled.{Filled}
-use Rattle.lists.proofs.Order.{lt_or_ge}
+use Rattle.std.proofs.lemmas.Bool.{cases_lt}
 use Rattle.lists.proofs.Run.{padded_ext, padded_past}
 
 module _ {A : Type 0} (d : A) (f : ℕ → A) where
@@ -29,7 +29,7 @@ module _ {A : Type 0} (d : A) (f : ℕ → A) where
             (λ (c : n ≤ k).
             let q : n ≡ k = omega arith in
             subst (λ (j : ℕ). get_or (set new n v) j d ≡ f j) q (get_or-set_same new n v d l ∙ e))
-            (lt_or_ge k n);
+            (cases_lt k n);
         others = λ k b. get_or-set_other new n k v d (λ q. omega arith) ∙ h.others k (omega arith);
       }
 
@@ -53,7 +53,7 @@ zeros_at n k =
     ⊎_elim
     (λ (l : k < n). get_or-replicate n k 0 0 l)
     (λ (l : n ≤ k). get_or-eq_default (replicate n 0) 0 (omega (arith, length-replicate {A = ℕ} n 0)))
-    (lt_or_ge k n)
+    (cases_lt k n)
 
 -- filled over zeros
 pub filled_padded : (f : ℕ → ℕ) (size n : ℕ) {new : List ℕ} → Filled 0 f n (replicate size 0) new

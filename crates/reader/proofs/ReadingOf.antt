@@ -2,7 +2,6 @@
 -- Assumes nothing.
 use mathlib.Core.Path.{◌≡◌, refl, ap, ap₂}
 use Prim.Native.Nat.{ℕ}
-use Rattle.lists.proofs.Order.{zero_not_one}
 use Rattle.terms.specs.declared.Refusal.{Refusal}
 use Rattle.terms.specs.declared.Verdict.{Verdict}
 use Rattle.terms.specs.declared.Verdict.TheVariants.{Fine, Refused}
@@ -17,16 +16,16 @@ reading_refused v m T e = ap (λ (u : Verdict). reading_of u m T) e
 -- a verdict that is fine answers m and T
 pub reading_accepted : (v : Verdict) {m m' T T' : ℕ} → Fine ≡ v → m ≡ m' → T ≡ T' → Accepted m T ≡ reading_of v m' T'
 reading_accepted Fine e p q = ap₂ (λ (a b : ℕ). Accepted a b) p q
-reading_accepted (Refused r) e p q = zero_not_one (cc)
+reading_accepted (Refused r) e p q = cc
 
 -- an answer that accepts tells that the verdict is fine
 pub accepted_fine : (v : Verdict) (M P : ℕ) {m T : ℕ} → Accepted m T ≡ reading_of v M P → (v ≡ Fine) × (m ≡ M) × (T ≡ P)
 accepted_fine Fine M P e = (refl, cc, cc)
-accepted_fine (Refused r) M P e = zero_not_one (cc)
+accepted_fine (Refused r) M P e = cc
 
 -- and one that refuses tells for what
 pub refused_verdict : (v : Verdict) (M P : ℕ) {r : Refusal} → ReadRefused r ≡ reading_of v M P → v ≡ Refused r
-refused_verdict Fine M P e = zero_not_one (cc)
+refused_verdict Fine M P e = cc
 refused_verdict (Refused r) M P e = cc
 
 -- what the answer carries: number and place of the verdict, and m and T where it is fine

@@ -2,7 +2,6 @@
 -- Assumes nothing.
 use mathlib.Core.Path.{◌≡◌, refl}
 use Prim.Native.Nat.{ℕ}
-use Rattle.lists.proofs.Order.{zero_not_one}
 use Rattle.terms.specs.declared.Verdict.{Verdict}
 use Rattle.terms.specs.declared.Verdict.TheVariants.{Fine, Refused}
 use Rattle.terms.specs.declared.Answer.TheVariants.{Accepted}
@@ -24,4 +23,4 @@ answer_carries_lem (Refused r) n = refl
 -- an answer that accepts tells that the verdict is fine
 pub accepted_answer : (v : Verdict) (k : ℕ) {n : ℕ} → Accepted n ≡ answer_of v k → (v ≡ Fine) × (n ≡ k)
 accepted_answer Fine k e = (refl, cc)
-accepted_answer (Refused r) k e = zero_not_one (cc)
+accepted_answer (Refused r) k e = cc

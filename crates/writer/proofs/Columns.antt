@@ -7,7 +7,7 @@ use Prim.Native.Nat.{ℕ, ◌+◌, ◌*◌, ◌≤◌, ◌<◌}
 use native.Mathlib.Nat.{not-suc-le-zero, mul-le-mul_left, mul-suc}
 use native.Mathlib.Omega.{arith}
 use lib.ListN.{get_or}
-use Rattle.lists.proofs.Order.{lt_or_ge}
+use Rattle.std.proofs.lemmas.Bool.{cases_lt}
 use Rattle.bits.specs.Field.{Put}
 use Rattle.bits.proofs.Puts.{put_apart}
 use Rattle.sheet.specs.declared.format.Column.{Column}
@@ -34,6 +34,6 @@ column_next {s} {t} {u} {c} {n} {v} {l} g spaced same h =
           (λ (a : n ≤ k).
           let e : n ≡ k = omega arith in
           subst (λ (j : ℕ). entry u c j ≡ get_or l j 0) e (h.holds ∙ same))
-          (lt_or_ge k n);
+          (cases_lt k n);
       others = λ a w o. put_apart h a w (o n (omega arith)) ∙ g.others a w (λ k b. o k (omega arith));
     }
