@@ -1,17 +1,12 @@
 -- One bit of one byte replaced, and bytes against their bits: lists of bytes of one length with equal bits are equal.
 -- Assumes nothing.
-use mathlib.Core.Path.{◌≡◌, sym, ap, subst, ◌∙◌}
-use mathlib.Core.Bool.{Bool, true, false, ◌&&◌}
-use mathlib.Core.List.{List, [], ◌∷◌}
-use mathlib.Core.Logic.{⊎_elim}
-use Prim.Native.Nat.{ℕ, zero, suc, ◌+◌, ◌-◌, ◌*◌, ◌/◌, ◌%◌, ◌^◌, ◌≤◌, ◌<◌}
-use native.Mathlib.Nat.{mod-lt, pow-suc, div-le_self, one-mul, div-eq_of_lt, div-one, zero-add}
-use native.Mathlib.Omega.{arith}
+use Rattle.std.proofs.Common.{◌≡◌, sym, ap, subst, ◌∙◌, Bool, true, false, ◌&&◌, List, [], ◌∷◌, ⊎_elim, ℕ, zero, suc}
+use Rattle.std.proofs.Common.{◌+◌, ◌-◌, ◌*◌, ◌/◌, ◌%◌, ◌^◌, ◌≤◌, ◌<◌, mod-lt, pow-suc, div-le_self, one-mul, div-one}
+use Rattle.std.proofs.Common.{zero-add, arith, T, ltb, ltb→lt, lit<, lit≤, length, get_or, pow_pos, pow-add, shr-shr}
+use Rattle.std.proofs.Common.{shr_lt, shl_exact, ext_get_or}
+use native.Mathlib.Nat.{div-eq_of_lt}
 use lib.Arith.{digits_lt}
-use lib.Dec.{T, ltb, ltb→lt, lit<, lit≤}
-use lib.ListN.{length, get_or}
-use lib.Pow.{pow_pos, pow-add, field, mod-mod-pow, shr-shr, shr_lt, shl_exact, high, low, are_bytes}
-use lib.Seq.{ext_get_or}
+use lib.Pow.{field, mod-mod-pow, high, low, are_bytes}
 use Rattle.std.proofs.lemmas.Bool.{cases_lt}
 use Rattle.bits.specs.Field.{bit_at, field_of, BitPut, Bytes}
 use Rattle.bits.proofs.Fields.{field_same, same_bits}

@@ -1,15 +1,10 @@
 -- Laws of a list by train or station, counted from 1, that a loop fills in either direction.
 --   Held xs f a b   entries a to b - 1 of xs are those of f
 -- Assumes nothing.
-use mathlib.Core.Path.{◌≡◌, ap, ◌∙◌}
-use mathlib.Core.List.{List}
-use mathlib.Core.Logic.{inl, inr}
-use Prim.Native.Nat.{ℕ, ◌-◌, ◌≤◌, ◌<◌}
-use native.Mathlib.Omega.{arith}
-use lib.ListN.{length, get_or, set}
-use lib.Seq.{get_or-set_same, get_or-set_other}
-use Rattle.lists.specs.Run.{nth}
+use Rattle.std.proofs.Common.{◌≡◌, ap, ◌∙◌, List, inl, inr, ℕ, ◌-◌, ◌≤◌, ◌<◌, arith, length, get_or, set}
+use Rattle.std.proofs.Common.{get_or-set_same, get_or-set_other}
 use Rattle.std.proofs.lemmas.Bool.{cases_eq}
+use Rattle.lists.specs.Run.{nth}
 
 abbrev pub Held : List ℕ → (ℕ → ℕ) → ℕ → ℕ → Type 0
 Held xs f a b = (l : ℕ) → a ≤ l → l < b → nth xs l ≡ f l

@@ -2,17 +2,12 @@
 -- equal places; and of the lists made of a run. A loop states what it has still to
 -- do as a run that equals its goal: `run_next` is its turn, `run_none` its end.
 -- Assumes nothing.
-use mathlib.Core.Path.{◌≡◌, refl, sym, ap, ap₂, subst, ◌∙◌}
-use mathlib.Core.List.{List}
-use mathlib.Core.Logic.{⊎_elim}
-use Prim.Native.Nat.{ℕ, zero, suc, ◌+◌, ◌-◌, ◌≤◌, ◌<◌}
-use native.Mathlib.Nat.{not-suc-le-zero, le_of_suc-le-suc, add-zero}
-use native.Mathlib.Omega.{arith}
-use lib.ListN.{length, get_or, get_or-eq_default}
-use lib.Seq.{ext_get_or}
+use Rattle.std.proofs.Common.{◌≡◌, refl, sym, ap, ap₂, subst, ◌∙◌, List, ⊎_elim, ℕ, zero, suc, ◌+◌, ◌-◌, ◌≤◌, ◌<◌}
+use Rattle.std.proofs.Common.{not-suc-le-zero, le_of_suc-le-suc, add-zero, arith, length, get_or, ext_get_or}
+use lib.ListN.{get_or-eq_default}
+use Rattle.std.proofs.lemmas.Bool.{cases_lt}
 use Rattle.lists.specs.Run.{run_of, listed, padded, nth}
 use Rattle.lists.proofs.Choice.{below_yes, below_no}
-use Rattle.std.proofs.lemmas.Bool.{cases_lt}
 
 module _ {A B : Type 0} (step : A → B → B) (done : B) where
   pub run_next : (f : ℕ → A) (i n : ℕ) → 0 < n

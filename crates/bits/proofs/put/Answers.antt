@@ -1,6 +1,7 @@
 use Rattle.std.proofs.Common.{◌≡◌, ◌∙◌, refl, sym, ap, subst, List, ℕ, ◌<◌, ◌≤◌, ◌+◌, ◌-◌, ◌*◌, ◌/◌, ◌%◌, ◌^◌, arith}
-use native.Mathlib.Nat.{mod-eq_of_lt, add-zero, div-one, mod-one}
-use lib.Pow.{mod-pow-add, shr-shr}
+use Rattle.std.proofs.Common.{mod-eq_of_lt, add-zero, div-one, shr-shr}
+use native.Mathlib.Nat.{mod-one}
+use Rattle.std.proofs.lemmas.Nat.{mod-pow-add}
 use Rattle.bits.specs.Field.{Put}
 use Rattle.bits.proofs.Puts.{put_none, put_more}
 use Rattle.bits.proofs.put.Invariants.{Putting}
