@@ -8,7 +8,7 @@ use native.Mathlib.Decide.{ℕ_discrete}
 use Rattle.std.proofs.lemmas.Bool.{cases_lt}
 use Rattle.bits.specs.Field.{bit_at, field_of, Apart, Put, BitPut, Bytes}
 use Rattle.bits.proofs.Fields.{field_none, field_bit, field_split, field_same, same_bits}
-use Rattle.bits.proofs.Bytes.{machine, bytes_ext}
+use Rattle.bits.proofs.Bytes.{byte_put, bytes_ext}
 
 -- every field that lies apart from the one put is as it was
 pub put_apart : {s t : List ℕ} {at w v : ℕ} → Put s at w v t → (a u : ℕ) → Apart a u at w
@@ -89,7 +89,7 @@ puttable_more : (s : List ℕ) (at k b x : ℕ) → b < 2 → at < 8 * length s 
 puttable_more s at k b x bit room low =
     let t = low.result in
     let in_sheet : at < 8 * length t = omega (arith, low.put.long) in
-    let byte = machine (get_or t (at / 8) 0) (7 - at % 8) b bit (low.bytes (at / 8)) (omega arith) in
+    let byte = byte_put (get_or t (at / 8) 0) (7 - at % 8) b (low.bytes (at / 8)) (omega arith) bit in
     record {
       result = set t (at / 8) _;
       bytes = bytes_set t (at / 8) _ low.bytes (omega arith) byte.small;

@@ -11,9 +11,7 @@ fn bit(bytes: &[u8], i: usize) -> u32
     requires { i < 8 * length bytes.now }
     ensures { result ≡ bit_at bytes.now i }
 {
-    let byte = bytes[i / 8] as u32;
-    let below = 7 - i % 8;
-    (byte >> below) % 2
+    u32::from(bytes[i / 8] >> (7 - i % 8)) % 2
 }
 
 // The number held by the `width` bits from bit `at`.
@@ -30,15 +28,12 @@ pub fn field(bytes: &[u8], at: usize, width: usize) -> u32
 }
 
 // `byte` with its bit of weight 2 ^ k replaced by `b`.
-#[tactic(auto, using(crate::proofs::Bytes::machine))]
 fn with_bit(byte: u8, k: usize, b: u32) -> u8
     requires { (k < 8) × (b < 2) }
     ensures { BitPut byte k b result }
 {
-    let n = byte as u32;
-    let high = (n >> k) / 2 * 2 + b;
-    let low = n % (1u32 << k);
-    ((high << k) + low) as u8
+    let mask = 1u8 << k;
+    if b == 0 { byte & !mask } else { byte | mask }
 }
 
 // Bit `i` of the bytes becomes `b`.
@@ -58,6 +53,6 @@ pub fn put(bytes: &mut [u8], at: usize, width: usize, value: u32)
     let mut rest = value;
     for k in (0..width).rev() {
         put_bit(bytes, at + k, rest % 2);
-        rest = rest / 2;
+        rest /= 2;
     }
 }

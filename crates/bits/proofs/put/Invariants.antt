@@ -1,5 +1,5 @@
 -- The last bits of the value stand, and `rest` holds the others.
-use Rattle.std.proofs.Common.{◌≡◌, List, ℕ, ◌≤◌, ◌+◌, ◌-◌, ◌/◌, ◌%◌, ◌^◌}
+use Rattle.std.proofs.Common.{◌≡◌, List, ℕ, ◌+◌, ◌-◌, ◌/◌, ◌%◌, ◌^◌}
 use Rattle.bits.specs.Field.{Put}
 use Rattle.bits.proofs.put.Given as goal
 
