@@ -40,18 +40,14 @@ fn read_head(sheet: &[u8]) -> Reading
 }
 
 // The first `n` places of `list` become those of the column.
+#[tactic(auto, using(lists::proofs::Fill::filled_next), unfolding(sheet::specs::Format::entry))]
 fn read_column(list: &mut [u32], sheet: &[u8], column: Column, n: usize)
     requires { ColumnRoom sheet.now column n (length list.old) }
     ensures { Filled 0 (entry sheet.now column) n list.old
         list.new }
 {
-    let first = column.first;
-    let step = column.step;
-    let width = column.width;
-    let mut k = 0;
-    while k < n {
-        list[k] = field(sheet, first + step * k, width);
-        k += 1;
+    for (k, place) in list[..n].iter_mut().enumerate() {
+        *place = field(sheet, column.first + column.step * k, column.width);
     }
 }
 

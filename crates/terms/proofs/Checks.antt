@@ -14,7 +14,7 @@ use native.Mathlib.Decide.{ℕ_discrete}
 use native.Mathlib.Omega.{arith}
 use Rattle.lists.specs.Run.{run_of}
 use Rattle.lists.proofs.Choice.{below_yes, below_no, same_yes, same_no}
-use Rattle.lists.proofs.Order.{lt_or_ge, zero_not_one}
+use Rattle.std.proofs.lemmas.Bool.{cases_lt}
 use Rattle.lists.proofs.Run.{run_next, run_none}
 use Rattle.terms.specs.declared.Refusal.{Refusal}
 use Rattle.std.specs.Prelude.{Ok, Err}
@@ -25,7 +25,7 @@ use Rattle.terms.specs.Verdict.{if_fine}
 -- ---- a check and those that follow
 
 pub refused_not_fine : {A : Type 0} {r : Refusal} → Err r ≡ Fine → A
-refused_not_fine e = zero_not_one (cc)
+refused_not_fine e = cc
 
 pub fine_or_refused : (v : Verdict) → (v ≡ Fine) ⊎ ((r : Refusal) × (v ≡ Err r))
 fine_or_refused (Ok u) = inl refl
@@ -76,7 +76,7 @@ pub check_or_rest : (c : Check) (rest : List Check)
     → ((Passes c → ⊥) × (verdict_of (c ∷ rest) ≡ Err (refusal_of c)))
     ⊎ (Passes c × (verdict_of (c ∷ rest) ≡ verdict_of rest))
 unfolding verdict_of
-check_or_rest (refuse r when a below b) rest = elim (lt_or_ge a b) [
+check_or_rest (refuse r when a below b) rest = elim (cases_lt a b) [
   | inl l ↦ inl ((λ p. omega arith), below_yes _ _ l)
   | inr l ↦ inr (l, below_no _ _ l)
 ]

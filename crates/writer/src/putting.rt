@@ -18,13 +18,8 @@ fn put_column(sheet: &mut [u8], column: Column, n: usize, list: &[u32])
     ensures { ColumnPut sheet.old column n list.now
         sheet.new }
 {
-    let first = column.first;
-    let step = column.step;
-    let width = column.width;
-    let mut k = 0;
-    while k < n {
-        put(sheet, first + step * k, width, list[k]);
-        k += 1;
+    for (k, number) in list[..n].iter().enumerate() {
+        put(sheet, column.first + column.step * k, column.width, *number);
     }
 }
 
