@@ -16,10 +16,10 @@ use Rattle.lists.proofs.Run.{listed_length, listed_at}
 use Rattle.bits.specs.Field.{Bytes}
 use Rattle.bits.proofs.Puts.{puttable}
 use Rattle.terms.specs.declared.Refusal.{Refusal}
-use Rattle.terms.specs.declared.Verdict.TheVariants.{Fine}
+use Rattle.std.specs.Prelude.{Ok, Err}
+use Rattle.terms.specs.Verdict.{Fine}
 use Rattle.terms.specs.Refusal.{blanks_of}
 use Rattle.terms.proofs.Checks.{refused_not_fine, fine_or_refused}
-use Rattle.terms.specs.declared.Answer.TheVariants.{Accepted, Refused as AnswerRefused}
 use Rattle.line.specs.Line.{line_from}
 use Rattle.line.specs.Policy.{Policy, arrival}
 use Rattle.line.specs.Cells.{Table, Book, book_of, Worked, decide}
@@ -177,14 +177,14 @@ plan_possible s before = elim (fine_or_refused (plan_verdict s before)) [
       let done = settleable (book_of L) L.trains before told.1.numbers.trains_most told.0.cells in
       record {
         after = done.after;
-        answer = Accepted done.total;
+        answer = Ok done.total;
         plan = outcome_accepted _ _ before _ (sym fine)
             (settled_planned L _ before done.after done.total refl done.settled);
       }
   | inr (r, e) ↦
       record {
         after = blanks_for r before;
-        answer = AnswerRefused r;
+        answer = Err r;
         plan = outcome_refused _ _ before _ r (sym e) (refuses r before);
       }
 ]
@@ -210,7 +210,7 @@ module _ (s : List ℕ) (bytes : Bytes s) (i v : ℕ) (before : Buffers) where
       record {
         sheet = t;
         after = done.after;
-        answer = Accepted done.total;
+        answer = Ok done.total;
         report = record {
           outcome = outcome_accepted _ _ before _ (sym fine) (record { sheet = put; settled = done.settled });
           kept = λ r e. refused_not_fine (sym e ∙ fine);
@@ -224,7 +224,7 @@ module _ (s : List ℕ) (bytes : Bytes s) (i v : ℕ) (before : Buffers) where
         record {
           sheet = s;
           after = blanks_for r before;
-          answer = AnswerRefused r;
+          answer = Err r;
           report = record {
             outcome = outcome_refused _ _ before _ r (sym e) (refuses r before);
             kept = λ q f. refl;

@@ -12,11 +12,10 @@ use Rattle.lists.specs.Run.{listed, padded, nth}
 use Rattle.lists.proofs.Choice.{below_yes, below_no}
 use Rattle.lists.proofs.Order.{lt_or_ge}
 use Rattle.lists.proofs.Run.{listed_each, listed_padded, padded_same}
-use Rattle.terms.specs.declared.Verdict.{Verdict}
-use Rattle.terms.specs.declared.Verdict.TheVariants.{Fine}
+use Rattle.std.specs.Prelude.{Ok}
+use Rattle.terms.specs.Verdict.{Verdict, Fine}
+use Rattle.terms.specs.Answer.{Answer}
 use Rattle.terms.specs.Answer.{answer_carries, answer_of}
-use Rattle.terms.specs.declared.Answer.{Answer}
-use Rattle.terms.specs.declared.Answer.TheVariants.{Accepted}
 use Rattle.line.specs.Line.{Line, line_from}
 use Rattle.line.specs.Policy.{Decision, Keep, Policy, arrival, total}
 use Rattle.line.specs.Cells.{Table, book_of, Worked}
@@ -144,6 +143,6 @@ module _ (s : List ℕ) (M : Line) (x : CaseAnswer) (fine : sheet_verdict s ≡ 
       record {
         answer =
             h.answer ∙ ap (λ (v : Verdict). answer_of v (answer_carries a)) passed
-            ∙ ap Accepted (plan.costs ∙ total_is);
+            ∙ ap Ok (plan.costs ∙ total_is);
         held = record { decisions = decisions_are; delays = delays_are; cells = cells_are };
       }

@@ -11,8 +11,8 @@ use lib.ListN.{length}
 use Rattle.lists.specs.Run.{nth}
 use Rattle.lists.proofs.Order.{same_or_not}
 use Rattle.terms.specs.declared.Refusal.{Refusal}
-use Rattle.terms.specs.declared.Verdict.{Verdict}
-use Rattle.terms.specs.declared.Answer.{Answer}
+use Rattle.terms.specs.Verdict.{Verdict}
+use Rattle.terms.specs.Answer.{Answer}
 use Rattle.terms.specs.Answer.{answer_number, answer_place, answer_carries}
 use Rattle.planner.specs.Buffers.{Buffers}
 use Rattle.planner.specs.Plan.{Plan}

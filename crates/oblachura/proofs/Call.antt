@@ -9,7 +9,7 @@ use lib.ListN.{length}
 use Rattle.lists.proofs.Order.{same_or_not}
 use Rattle.terms.specs.declared.ListFault.TheVariants.{BufferLength}
 use Rattle.terms.specs.declared.Refusal.TheVariants.{OfList}
-use Rattle.terms.specs.declared.Verdict.{Verdict}
+use Rattle.terms.specs.Verdict.{Verdict}
 use Rattle.terms.specs.Refusal.{number_of}
 use Rattle.terms.specs.Verdict.{number_in, place_in}
 use Rattle.terms.proofs.Refusing.{zero_is_fine}

@@ -6,8 +6,8 @@ use mathlib.Core.Logic.{inl, inr}
 use mathlib.Core.List.{List, ◌∷◌, []}
 use lib.ListN.{length}
 use Rattle.lists.proofs.Order.{same_or_not}
-use Rattle.terms.specs.declared.Verdict.{Verdict}
-use Rattle.terms.specs.declared.Answer.{Answer}
+use Rattle.terms.specs.Verdict.{Verdict}
+use Rattle.terms.specs.Answer.{Answer}
 use Rattle.terms.specs.Verdict.{number_in, place_in}
 use Rattle.terms.specs.Answer.{answer_number, answer_carries}
 use Rattle.terms.proofs.Checks.{fine_or_refused, if_fine_lem, if_refused}

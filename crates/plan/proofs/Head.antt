@@ -4,8 +4,8 @@ use Rattle.std.proofs.Common.{ℕ, ◌≤◌, arith, ◌≡◌, sym, ◌∙◌, 
 use Rattle.std.proofs.Math.Dec.{lit≤}
 use Rattle.bits.specs.Field.{field_of, Within}
 use Rattle.terms.proofs.Answers.{accepted_answer}
-use Rattle.terms.specs.declared.Answer.{Answer}
-use Rattle.terms.specs.declared.Answer.TheVariants.{Accepted}
+use Rattle.std.specs.Prelude.{Ok}
+use Rattle.terms.specs.Answer.{Answer}
 use Rattle.sheet.specs.Format.{trains_of}
 use Rattle.sheet.specs.Accepted.{AcceptedSheet}
 use Rattle.sheet.proofs.Lengths.{bytes_bits, layout}
@@ -14,7 +14,7 @@ use Rattle.planner.specs.Plan.{plan_verdict, Plan}
 use Rattle.planner.proofs.Refusals.{accepted_of_plan}
 
 module _ (s : List ℕ) {before after : Buffers} {a : Answer} {n : ℕ} (plan : Plan s before after a)
-    (accepted : a ≡ Accepted n) where
+    (accepted : a ≡ Ok n) where
   sheet_accepted : AcceptedSheet s
   sheet_accepted =
       (accepted_of_plan s before (accepted_answer (plan_verdict s before) _ (sym accepted ∙ plan.answer)).0).1

@@ -13,10 +13,9 @@ use Rattle.lists.proofs.Choice.{true_or_false, if_yes, if_no}
 use Rattle.lists.proofs.Run.{padded_same}
 use Rattle.bits.proofs.Puts.{put_unique}
 use Rattle.terms.specs.declared.Refusal.{Refusal}
-use Rattle.terms.specs.declared.Verdict.{Verdict}
-use Rattle.terms.specs.declared.Verdict.TheVariants.{Fine, Refused}
-use Rattle.terms.specs.declared.Answer.{Answer}
-use Rattle.terms.specs.declared.Answer.TheVariants.{Accepted, Refused as AnswerRefused}
+use Rattle.std.specs.Prelude.{Ok, Err}
+use Rattle.terms.specs.Verdict.{Verdict, Fine}
+use Rattle.terms.specs.Answer.{Answer}
 use Rattle.terms.specs.Refusal.{blanks_of}
 use Rattle.terms.specs.Verdict.{number_in, place_in}
 use Rattle.terms.specs.Answer.{answer_number, answer_place, answer_carries, answer_of}
@@ -46,7 +45,7 @@ use Rattle.planner.proofs.Refusals.{accepted_of_plan, accepted_of_report}
 -- ---- what a call answers
 
 module _ (checks : Verdict) (Stored : ℕ → Type 0) (before after : Buffers) where
-  pub outcome_accepted : {n : ℕ} → Fine ≡ checks → Stored n → Outcome checks Stored before after (Accepted n)
+  pub outcome_accepted : {n : ℕ} → Fine ≡ checks → Stored n → Outcome checks Stored before after (Ok n)
   outcome_accepted {n} e stored =
       record {
         answer = ap (λ (v : Verdict). answer_of v n) e;
@@ -54,14 +53,14 @@ module _ (checks : Verdict) (Stored : ℕ → Type 0) (before after : Buffers) w
         refused = λ r f. refused_not_fine (sym (e ∙ f));
       }
 
-  pub outcome_refused : (r : Refusal) → Refused r ≡ checks → RefusedFor r before after
-      → Outcome checks Stored before after (AnswerRefused r)
+  pub outcome_refused : (r : Refusal) → Err r ≡ checks → RefusedFor r before after
+      → Outcome checks Stored before after (Err r)
   outcome_refused r e left =
       record {
         answer = ap (λ (v : Verdict). answer_of v 0) e;
         accepted = λ f. refused_not_fine (e ∙ f);
         refused = λ q f.
-            let both : Refused r ≡ Refused q = e ∙ f in
+            let both : Err r ≡ Err q = e ∙ f in
             let same : r ≡ q = cc in
             subst (λ (x : Refusal). RefusedFor x before after) same left;
       }
@@ -74,7 +73,7 @@ module _ (checks : Verdict) (Stored : ℕ → Type 0) (before after : Buffers) w
     pub outcome_place : answer_place a ≡ place_in checks
     outcome_place = ap answer_place h.answer ∙ answer_place_lem checks _
 
-    pub refused_carries : (r : Refusal) → checks ≡ Refused r → answer_carries a ≡ 0
+    pub refused_carries : (r : Refusal) → checks ≡ Err r → answer_carries a ≡ 0
     refused_carries r e = ap answer_carries (h.answer ∙ ap (λ (v : Verdict). answer_of v (answer_carries a)) e)
 
 -- with every row worked it is a plan

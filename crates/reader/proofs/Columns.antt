@@ -14,11 +14,11 @@ use Rattle.sheet.specs.Numbers.{Lists, numbers_of, numbers_in}
 use Rattle.sheet.specs.Checks.{Room}
 use Rattle.sheet.specs.Accepted.{Lengths, SameNumbers}
 use Rattle.sheet.proofs.Lengths.{layout, bytes_bits, pairs_le, train_within, passengers_within}
-use Rattle.reader.specs.Decoded.{ColumnRoom, Head, Body, ColumnsRead}
+use Rattle.reader.specs.Decoded.{ColumnRoom, HeadRead, Body, ColumnsRead}
 
 -- ---- the sheet
 
-module _ (s : List ℕ) (m : ℕ) (h : Head s m) where
+module _ (s : List ℕ) (m : ℕ) (h : HeadRead s m) where
   -- the column of the trains whose first field is the w bits from bit a
   pub train_room : (a w size : ℕ) → a + w ≤ 51 → w ≤ 16 → size ≡ 64
       → ColumnRoom s (record { first = a; step = 33; width = w }) m size

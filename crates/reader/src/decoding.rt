@@ -7,7 +7,7 @@ ghost use Rattle.sheet.specs.Numbers.{lists};
 ghost use Rattle.sheet.specs.Checks.{head_verdict, filling_verdict, body_verdict};
 ghost use Rattle.sheet.specs.Accepted.{Lengths};
 ghost use Rattle.reader.specs.Reading.{reading_of};
-ghost use Rattle.reader.specs.Decoded.{ColumnRoom, Head, ColumnsRead, Body, Decoded};
+ghost use Rattle.reader.specs.Decoded.{ColumnRoom, HeadRead, ColumnsRead, Body, Decoded};
 
 use crate::Reading;
 use bits::field;
@@ -15,7 +15,7 @@ use sheet::checks::{check_numbers, check_ranges};
 use sheet::format::{
     Column, PERIOD_AT, PERIOD_WIDTH, TRAINS_AT, TRAINS_WIDTH, bits_of, bytes_of, pairs_of,
 };
-use terms::{HeadFault, Refusal, Verdict};
+use terms::{Head, HeadFault, Refusal, Verdict};
 
 // Under 3 bytes; m and T; shorter or longer than m demands.
 fn read_head(sheet: &[u8]) -> Reading
@@ -23,22 +23,19 @@ fn read_head(sheet: &[u8]) -> Reading
         (trains_of sheet.now) (period_of sheet.now) }
 {
     if sheet.len() < 3 {
-        return Reading::Refused(Refusal::OfHead(HeadFault::NoHead));
+        return Err(Refusal::OfHead(HeadFault::NoHead));
     }
-    let m = field(sheet, TRAINS_AT, TRAINS_WIDTH);
+    let trains = field(sheet, TRAINS_AT, TRAINS_WIDTH);
     let period = field(sheet, PERIOD_AT, PERIOD_WIDTH);
-    let ranges = check_ranges(m, period);
-    if let Verdict::Refused(refusal) = ranges {
-        return Reading::Refused(refusal);
-    }
-    let n = bytes_of(m as usize);
+    check_ranges(trains, period)?;
+    let n = bytes_of(trains as usize);
     if sheet.len() < n {
-        return Reading::Refused(Refusal::OfHead(HeadFault::TooShort));
+        return Err(Refusal::OfHead(HeadFault::TooShort));
     }
     if n < sheet.len() {
-        return Reading::Refused(Refusal::OfHead(HeadFault::TooLong));
+        return Err(Refusal::OfHead(HeadFault::TooLong));
     }
-    Reading::Accepted(m, period)
+    Ok(Head { trains, period })
 }
 
 // The first `n` places of `list` become those of the column.
@@ -66,7 +63,7 @@ fn read_columns(
     delays: &mut [u32],
     passengers: &mut [u32],
 )
-    requires { Head sheet.now m
+    requires { HeadRead sheet.now m
         × Lengths 64 2080 (lists departures.old driving.old delays.old passengers.old) }
     ensures { ColumnsRead sheet.now
         (lists departures.old driving.old
@@ -82,14 +79,14 @@ fn read_columns(
 
 // The filling bits.
 fn check_filling(sheet: &[u8], m: usize) -> Verdict
-    requires { Head sheet.now m }
+    requires { HeadRead sheet.now m }
     ensures { result ≡ filling_verdict sheet.now }
 {
     let n = bits_of(m);
     if 0 < field(sheet, n, 8 * sheet.len() - n) {
-        return Verdict::Refused(Refusal::Filling);
+        return Err(Refusal::Filling);
     }
-    Verdict::Fine
+    Ok(())
 }
 
 // The numbers of the sheet, which stand in the lists, then its filling bits.
@@ -105,10 +102,7 @@ fn check_body(
         (lists departures.now driving.now delays.now passengers.now) }
     ensures { result ≡ body_verdict sheet.now }
 {
-    let numbers = check_numbers(m, departures, driving, delays, passengers);
-    if let Verdict::Refused(_) = numbers {
-        return numbers;
-    }
+    check_numbers(m, departures, driving, delays, passengers)?;
     check_filling(sheet, m as usize)
 }
 
@@ -130,14 +124,9 @@ pub fn decode(
         delays.new passengers.new)
         result }
 {
-    let head = read_head(sheet);
-    let Reading::Accepted(m, _) = head else {
-        return head;
-    };
+    let head = read_head(sheet)?;
+    let m = head.trains;
     read_columns(sheet, m as usize, departures, driving, delays, passengers);
-    let body = check_body(sheet, m, departures, driving, delays, passengers);
-    if let Verdict::Refused(refusal) = body {
-        return Reading::Refused(refusal);
-    }
-    head
+    check_body(sheet, m, departures, driving, delays, passengers)?;
+    Ok(head)
 }

@@ -12,6 +12,7 @@ use crate::format::pairs_of;
 use terms::{HeadFault, Refusal, Train, TrainFault, Verdict};
 
 // The lengths of four lists: `n` for each of the trains' three, `k` for the passengers'.
+#[tactic(auto, unfolding(crate::specs::Checks::lengths_verdict, terms::specs::Verdict::verdict_of, lists::specs::Choice::if_same))]
 pub fn check_lengths(
     refusal: Refusal,
     n: usize,
@@ -26,41 +27,43 @@ pub fn check_lengths(
         delays.now passengers.now) }
 {
     if departures.len() != n {
-        return Verdict::Refused(refusal);
+        return Err(refusal);
     }
     if driving.len() != n {
-        return Verdict::Refused(refusal);
+        return Err(refusal);
     }
     if delays.len() != n {
-        return Verdict::Refused(refusal);
+        return Err(refusal);
     }
     if passengers.len() != k {
-        return Verdict::Refused(refusal);
+        return Err(refusal);
     }
-    Verdict::Fine
+    Ok(())
 }
 
 // The number of trains and the period.
+#[tactic(auto, unfolding(crate::specs::Checks::ranges_verdict, terms::specs::Verdict::verdict_of, lists::specs::Choice::if_below))]
 pub fn check_ranges(m: u32, period: u32) -> Verdict
     ensures { result ≡ ranges_verdict m period }
 {
     if m < 1 {
-        return Verdict::Refused(Refusal::OfHead(HeadFault::TrainCount));
+        return Err(Refusal::OfHead(HeadFault::TrainCount));
     }
     if 64 < m {
-        return Verdict::Refused(Refusal::OfHead(HeadFault::TrainCount));
+        return Err(Refusal::OfHead(HeadFault::TrainCount));
     }
     if period < 1 {
-        return Verdict::Refused(Refusal::OfHead(HeadFault::Period));
+        return Err(Refusal::OfHead(HeadFault::Period));
     }
     if 1440 < period {
-        return Verdict::Refused(Refusal::OfHead(HeadFault::Period));
+        return Err(Refusal::OfHead(HeadFault::Period));
     }
-    Verdict::Fine
+    Ok(())
 }
 
 // The earliest minute at which a train may leave: when its feeder is planned to arrive. Train 1 has
 // none and may leave at 0.
+#[tactic(auto, unfolding(crate::specs::Checks::earliest_of, lists::specs::Choice::if_below))]
 fn earliest(train: Train, departures: &[u32], driving: &[u32]) -> u64
     requires { (train.0 ≤ length departures.now) × (train.0 ≤ length driving.now) }
     ensures { result ≡ earliest_of (nth departures.now) (nth driving.now)
@@ -68,29 +71,30 @@ fn earliest(train: Train, departures: &[u32], driving: &[u32]) -> u64
 {
     if 1 < train.0 {
         let k = train.leaves().feeder().index();
-        departures[k] as u64 + driving[k] as u64
+        u64::from(departures[k]) + u64::from(driving[k])
     } else {
         0
     }
 }
 
 // The times of one train: departure, driving time, source delay, slack.
+#[tactic(auto, unfolding(crate::specs::Checks::train_checks, terms::specs::Verdict::verdict_of, lists::specs::Choice::if_below))]
 fn check_times(train: Train, departure: u64, driving: u32, delay: u32, earliest: u64) -> Verdict
     ensures { result ≡ verdict_of (train_checks train.0 departure driving delay earliest) }
 {
     if 2879 < departure {
-        return Verdict::Refused(Refusal::OfTrain(train, TrainFault::Departure));
+        return Err(Refusal::OfTrain(train, TrainFault::Departure));
     }
     if 1023 < driving {
-        return Verdict::Refused(Refusal::OfTrain(train, TrainFault::Driving));
+        return Err(Refusal::OfTrain(train, TrainFault::Driving));
     }
     if 1440 < delay {
-        return Verdict::Refused(Refusal::OfTrain(train, TrainFault::SourceDelay));
+        return Err(Refusal::OfTrain(train, TrainFault::SourceDelay));
     }
     if departure < earliest {
-        return Verdict::Refused(Refusal::OfTrain(train, TrainFault::Slack));
+        return Err(Refusal::OfTrain(train, TrainFault::Slack));
     }
-    Verdict::Fine
+    Ok(())
 }
 
 // One train of the lists.
@@ -101,7 +105,7 @@ fn check_train(train: Train, departures: &[u32], driving: &[u32], delays: &[u32]
         train.0 }
 {
     let k = train.index();
-    let departure = departures[k] as u64;
+    let departure = u64::from(departures[k]);
     let earliest = earliest(train, departures, driving);
     check_times(train, departure, driving[k], delays[k], earliest)
 }
@@ -114,15 +118,10 @@ fn check_trains(m: u32, departures: &[u32], driving: &[u32], delays: &[u32]) -> 
         (times_in departures.now driving.now delays.now))
         1 m }
 {
-    let mut i = 1;
-    while i <= m {
-        let verdict = check_train(Train(i), departures, driving, delays);
-        if let Verdict::Refused(_) = verdict {
-            return verdict;
-        }
-        i += 1;
+    for i in 1..=m {
+        check_train(Train(i), departures, driving, delays)?;
     }
-    Verdict::Fine
+    Ok(())
 }
 
 // Passenger fields 1 to `n`.
@@ -130,14 +129,12 @@ fn check_passengers(n: usize, passengers: &[u32]) -> Verdict
     requires { (n ≤ 2080) × (n ≤ length passengers.now) }
     ensures { result ≡ first_of (passengers_verdict (nth passengers.now)) 1 n }
 {
-    let mut f = 1;
-    while f <= n {
+    for f in 1..=n {
         if 10000 < passengers[f - 1] {
-            return Verdict::Refused(Refusal::Passengers(f as u32));
+            return Err(Refusal::Passengers(f as u32));
         }
-        f += 1;
     }
-    Verdict::Fine
+    Ok(())
 }
 
 // All trains, then all passenger fields.
@@ -153,9 +150,6 @@ pub fn check_numbers(
         (times_in departures.now driving.now delays.now)
         (nth passengers.now) }
 {
-    let trains = check_trains(m, departures, driving, delays);
-    if let Verdict::Refused(_) = trains {
-        return trains;
-    }
+    check_trains(m, departures, driving, delays)?;
     check_passengers(pairs_of(m as usize), passengers)
 }

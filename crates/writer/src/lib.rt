@@ -29,15 +29,12 @@ fn check_write(
         delays.now passengers.now)) }
 {
     if room != 3907 {
-        return Verdict::Refused(Refusal::OfList(ListFault::BufferLength));
+        return Err(Refusal::OfList(ListFault::BufferLength));
     }
-    let ranges = check_ranges(m, period);
-    if let Verdict::Refused(_) = ranges {
-        return ranges;
-    }
+    check_ranges(m, period)?;
     let n = m as usize;
     let pairs = pairs_of(n);
-    let lengths = check_lengths(
+    check_lengths(
         Refusal::OfList(ListFault::ListLength),
         n,
         pairs,
@@ -45,10 +42,7 @@ fn check_write(
         driving,
         delays,
         passengers,
-    );
-    if let Verdict::Refused(_) = lengths {
-        return lengths;
-    }
+    )?;
     check_numbers(m, departures, driving, delays, passengers)
 }
 
@@ -68,7 +62,7 @@ pub fn write(
         delays.now passengers.now))
         sheet.old sheet.new result }
 {
-    let verdict = check_write(
+    check_write(
         sheet.len(),
         m,
         period,
@@ -76,10 +70,7 @@ pub fn write(
         driving,
         delays,
         passengers,
-    );
-    if let Verdict::Refused(refusal) = verdict {
-        return Answer::Refused(refusal);
-    }
+    )?;
     let n = bytes_of(m as usize);
     put_sheet(
         &mut sheet[..n],
@@ -90,5 +81,5 @@ pub fn write(
         delays,
         passengers,
     );
-    Answer::Accepted(n as u64)
+    Ok(n as u64)
 }

@@ -1,12 +1,8 @@
 -- `checks::check_passengers` meets its contract, by the invariant that stands in Invariants.antt.
-use mathlib.Core.Path.{refl}
-use native.Mathlib.Omega.{arith}
-use Rattle.terms.proofs.Checks.{search_first, search_next, search_stop, search_end, hit, miss, no_more}
+use Rattle.std.proofs.Common.{refl, arith}
+use Rattle.terms.proofs.Checks.{search_next, search_stop, search_end, search_last, hit, miss, no_more}
 use Rattle.sheet.specs.Checks.{passengers_verdict}
 use Rattle.sheet.proofs.checks.check_passengers.Goals as goal
-
-pub loop-f-init : goal.loop-f-init
-loop-f-init c = search_first _ _ _
 
 -- a field was refused: it is the first
 pub returns-then-passengers-f-gt10000 : goal.returns-then-passengers-f-gt10000
@@ -20,6 +16,12 @@ unfolding passengers_verdict
 loop-f-preserved c =
     search_next _ _ _ c.loop-f.invariant (omega arith) refl (miss _ _ _ _ _ (omega arith) no_more)
 
--- every field passed
+-- the last field passed
+pub returns-else-passengers-f-gt10000 : goal.returns-else-passengers-f-gt10000
+unfolding passengers_verdict
+returns-else-passengers-f-gt10000 c =
+    search_last _ _ _ c.loop-f.invariant (omega arith) refl (miss _ _ _ _ _ (omega arith) no_more)
+
+-- there is no field
 pub returns : goal.returns
 returns c = search_end _ _ _ c.loop-f.invariant (omega arith)
