@@ -57,25 +57,31 @@ impl Timing {
     }
 
     // The slack at a station becomes so many minutes.
+    #[tactic(auto, using(crate::proofs::Times::slack_set))]
     pub fn set_slack(&mut self, station: Station, minutes: u32)
         requires { (1 ≤ station.0) × (station.0 ≤ 64) }
-        ensures { self.new ≡ with_slack self.old station.0 minutes }
+        ensures whole { self.new ≡ with_slack self.old station.0 minutes }
+        ensures here { slack_in self.new station.0 ≡ minutes }
     {
         self.trains[station.index()].slack = minutes;
     }
 
     // The source delay of a train becomes so many minutes.
+    #[tactic(auto, using(crate::proofs::Times::source_set))]
     pub fn set_source(&mut self, train: Train, minutes: u32)
         requires { (1 ≤ train.0) × (train.0 ≤ 64) }
-        ensures { self.new ≡ with_source self.old train.0 minutes }
+        ensures whole { self.new ≡ with_source self.old train.0 minutes }
+        ensures here { source_in self.new train.0 ≡ minutes }
     {
         self.trains[train.index()].source = minutes;
     }
 
     // The period at a station becomes so many minutes.
+    #[tactic(auto, using(crate::proofs::Times::period_set))]
     pub fn set_period(&mut self, station: Station, minutes: u32)
         requires { (1 ≤ station.0) × (station.0 ≤ 64) }
-        ensures { self.new ≡ with_period self.old station.0 minutes }
+        ensures whole { self.new ≡ with_period self.old station.0 minutes }
+        ensures here { period_in self.new station.0 ≡ minutes }
     {
         self.trains[station.index()].period = minutes;
     }

@@ -12,7 +12,7 @@ room c = omega (arith, c.requires.2, c.requires.0.trains)
 
 -- the train boards last at the station that it leaves
 pub loop-k-init : goal.loop-k-init
-loop-k-init c = column_start _ _ _ _ c.leaves-last.ensures c.requires.3
+loop-k-init c = column_start _ _ _ _ c.leaves-last.ensures (omega arith) c.requires.3
 
 -- station k and the station that the train reaches are a pair of the line
 pub pair-sum-requires : goal.pair-sum-requires

@@ -6,7 +6,7 @@ use Rattle.prepare.proofs.sums.sum_columns.Goals as goal
 
 -- no column is summed yet
 pub loop-i-init : goal.loop-i-init
-loop-i-init c = (search rules, search rules, sums_none _ _ (search rules))
+loop-i-init c = (search rules, search rules, sums_none _ _)
 
 -- one column more
 pub loop-i-preserved : goal.loop-i-preserved

@@ -11,11 +11,11 @@ given : (c : In-loop-i) →
     let start = c.args in
     TrainGiven c.loop-i.i start.departures.now start.driving.now start.delays.now
 given c =
-    c.requires.1 _ c.loop-i.invariant.0 c.loop-i-test.true
+    c.requires _ c.loop-i.invariant.0 c.loop-i-test.true
 
 -- no train is taken yet
 pub loop-i-init : goal.loop-i-init
-loop-i-init c = (search rules, search rules, times_none _ _ _ (search rules))
+loop-i-init c = (search rules, search rules, times_none _ _ _)
 
 pub set_times-requires : goal.set_times-requires
 set_times-requires c = (given (goal.at.set_times-requires c).In-loop-i, c.loop-i.invariant.2)
