@@ -1,12 +1,11 @@
-// The times of a line in one list, from the numbers of its trains.
+// The times of a line, from the numbers of its trains.
 ghost use Rattle.std.specs.Prelude.{◌≡◌, ℕ, ◌-◌, ◌≤◌, length};
 ghost use Rattle.lists.specs.Run.{nth};
 ghost use Rattle.sheet.specs.Numbers.{times_in};
 ghost use Rattle.prepare.specs.Prepared.{HoldsTimes};
-ghost use Rattle.cells.specs.Timing.{timing_count};
 ghost use Rattle.prepare.specs.Preparing.{SlackGiven, TrainGiven};
 
-use cells::timing::{set_period, set_slack, set_source};
+use cells::timing::Timing;
 use terms::Train;
 
 // The slack at the station that a train leaves: its departure less that of its feeder less the
@@ -28,7 +27,7 @@ fn slack(train: Train, departures: &[u32], driving: &[u32]) -> u32
 // The times of a train beside those of the trains before it: slack and period at the station that
 // it leaves, and its source delay.
 fn set_times(
-    timing: &mut [u32],
+    timing: &mut Timing,
     train: Train,
     period: u32,
     departures: &[u32],
@@ -43,22 +42,21 @@ fn set_times(
         timing.new }
 {
     let station = train.leaves();
-    set_slack(timing, station, slack(train, departures, driving));
-    set_source(timing, train, delays[train.index()]);
-    set_period(timing, station, period);
+    timing.set_slack(station, slack(train, departures, driving));
+    timing.set_source(train, delays[train.index()]);
+    timing.set_period(station, period);
 }
 
 // The times of all trains.
 pub fn fill_timing(
-    timing: &mut [u32],
+    timing: &mut Timing,
     m: u32,
     period: u32,
     departures: &[u32],
     driving: &[u32],
     delays: &[u32],
 )
-    requires { (length timing.old ≡ timing_count)
-        × ((i : ℕ) → 1 ≤ i → i ≤ m → TrainGiven i departures.now driving.now delays.now) }
+    requires { (i : ℕ) → 1 ≤ i → i ≤ m → TrainGiven i departures.now driving.now delays.now }
     ensures { HoldsTimes m period
         (times_in departures.now driving.now delays.now)
         timing.new }

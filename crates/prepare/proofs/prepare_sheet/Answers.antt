@@ -13,12 +13,10 @@ zeros = record { departures = refl; driving = refl; delays = refl; passengers = 
 
 -- the lists hold numbers in range
 pub fill_timing-requires : goal.fill_timing-requires
-fill_timing-requires c =
-    (c.requires.0, train_given _ _ _ _ c.decode.ensures zeros _ c.in_ok-head.was)
+fill_timing-requires c = train_given _ _ _ _ c.decode.ensures zeros _ c.in_ok-head.was
 
 pub sum_columns-requires : goal.sum_columns-requires
-sum_columns-requires c =
-    (fields_given _ _ _ _ c.decode.ensures zeros _ c.in_ok-head.was, c.requires.1)
+sum_columns-requires c = fields_given _ _ _ _ c.decode.ensures zeros _ c.in_ok-head.was
 
 -- both lists are filled
 pub returns : goal.returns
