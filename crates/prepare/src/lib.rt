@@ -16,6 +16,7 @@ use cells::sums::SUMS;
 use cells::timing::Timing;
 use reader::Reading;
 use reader::decoding::decode;
+use sheet::numbers::Columns;
 use terms::Verdict;
 
 // Takes the sheet apart and, if it is accepted, fills the times and the list of sums.
@@ -23,26 +24,10 @@ fn prepare_sheet(sheet: &[u8], timing: &mut Timing, sums: &mut [u32; SUMS]) -> R
     ensures { Prepared (sheet_verdict sheet.now) sheet.now
         timing.new sums.new result }
 {
-    let mut departures = [0u32; 64];
-    let mut driving = [0u32; 64];
-    let mut delays = [0u32; 64];
-    let mut passengers = [0u32; 2080];
-    let head = decode(
-        sheet,
-        &mut departures,
-        &mut driving,
-        &mut delays,
-        &mut passengers,
-    )?;
-    fill_timing(
-        timing,
-        head.trains,
-        head.period,
-        &departures,
-        &driving,
-        &delays,
-    );
-    sum_columns(sums, &passengers, head.trains);
+    let mut columns = Columns::zeros();
+    let head = decode(sheet, &mut columns)?;
+    fill_timing(timing, head, columns.lists());
+    sum_columns(sums, &columns.passengers, head.trains);
     Ok(head)
 }
 
