@@ -7,12 +7,12 @@ ghost use Rattle.sheet.specs.Checks.{sheet_verdict};
 ghost use Rattle.cells.specs.Place.{cell_count};
 ghost use Rattle.prepare.specs.Prepared.{Prepared};
 ghost use Rattle.planner.specs.Buffers.{buffer_lengths_verdict};
-ghost use Rattle.cells.specs.Sums.{sums_count};
-ghost use Rattle.cells.specs.Timing.{timing_count};
 ghost use Rattle.planner.specs.ReportChecks.{report_checks, own_verdict};
 
 use cells::limits::check_rows_after;
 use cells::place::CELLS;
+use cells::sums::SUMS;
+use cells::timing::Timing;
 use prepare::prepare;
 use reader::Reading;
 use terms::{ListFault, Refusal, ReportFault, Train, Verdict};
@@ -68,11 +68,10 @@ pub fn check_report(
     train: Train,
     delay: u32,
     cells: &[u64],
-    timing: &mut [u32],
-    sums: &mut [u32],
+    timing: &mut Timing,
+    sums: &mut [u32; SUMS],
 ) -> Reading
-    requires { (earlier ≡ Fine → length cells.now ≡ cell_count)
-        × (length timing.old ≡ timing_count) × (length sums.old ≡ sums_count) }
+    requires { earlier ≡ Fine → length cells.now ≡ cell_count }
     ensures { Prepared
         (earlier and_then sheet_verdict sheet.now
         and_then own_verdict (trains_of sheet.now) train.0 delay

@@ -1,5 +1,5 @@
 -- `plan` meets its contract: the checks, then the work on the sheet's times and sums.
-use mathlib.Core.Path.{◌≡◌, refl, sym, ◌∙◌}
+use mathlib.Core.Path.{refl, sym, ◌∙◌}
 use native.Mathlib.Nat.{le_refl}
 use native.Mathlib.Omega.{arith}
 use Rattle.line.specs.Line.{line_from}

@@ -1,7 +1,5 @@
 -- `report` meets its contract: the checks, then the new delay into sheet and times, and the work from its train down.
-use mathlib.Core.Path.{◌≡◌, refl, sym, ◌∙◌}
-use borrow.Author.Rules.{rules}
-use native.Mathlib.Omega.{arith}
+use Rattle.std.proofs.Common.{refl, sym, ◌∙◌, arith}
 use Rattle.terms.proofs.Checks.{refused_not_fine}
 use Rattle.sheet.specs.Format.{trains_of}
 use Rattle.sheet.specs.Accepted.{AcceptedSheet}
@@ -29,19 +27,14 @@ passed c =
 
 -- lengths that pass are right
 pub check_report-requires : goal.check_report-requires
-check_report-requires c = (
-  λ fine. cells_of_fine _ _ _ (sym c.check_buffers-lengths.ensures ∙ fine),
-  search rules,
-  search rules,
-)
+check_report-requires c fine = cells_of_fine _ _ _ (sym c.check_buffers-lengths.ensures ∙ fine)
 
--- the train is one of the sheet's, so that its field lies in the sheet and its delay in the list
+-- the train is one of the sheet's, so that its field lies in the sheet and it has a number to replace
 pub replace_delay-requires : goal.replace_delay-requires
 replace_delay-requires c =
     let ok = passed (goal.at.replace_delay-requires c).In-Ok in (
       delay_room _ _ _ ok.1 ok.2.least ok.2.most ok.2.delay,
       omega (arith, ok.2.most, ok.1.numbers.trains_most),
-      search rules,
     )
 
 -- the later rows allow the work
@@ -54,9 +47,9 @@ settle-requires c =
     let ok = passed (goal.at.settle-requires c).In-Ok in
     let report = ok.2 in (
       record { last = omega (arith, report.most, trains); lengths = ok.0; later = rw trains report.later },
-      rw c.replace_delay.ensures.1
-          (replaced_given _ _ _ ok.1 report.least report.most report.delay _
-          c.replace_delay.ensures.0 _ _ _ trains (checked.times fine) (checked.leavers fine)),
+      replaced_given _ _ _ ok.1 report.least report.most report.delay _ c.replace_delay.ensures.sheet _ _ _ _
+          c.replace_delay.ensures.times c.replace_delay.ensures.here trains (checked.times fine)
+          (checked.leavers fine),
     )
 
 -- refused
@@ -85,14 +78,13 @@ returns-in-Ok c =
     let ok = passed (goal.at.returns-in-Ok c).In-Ok in
     let report = ok.2 in
     let lent = buffers c.args.cells.now c.args.decisions.now c.args.delays.now in
-    let settled = rw c.replace_delay.ensures.1 at c.settle.ensures in
     record {
       outcome = outcome_accepted _ _ lent _ (sym fine)
           (record {
-            sheet = c.replace_delay.ensures.0;
+            sheet = c.replace_delay.ensures.sheet;
             settled = replaced_settled _ _ _ ok.1 report.least report.most report.delay _
-                c.replace_delay.ensures.0 _ _ _ (taken_trains checked answer) (checked.times fine)
-                (checked.leavers fine) lent _ _ settled;
+                c.replace_delay.ensures.sheet _ _ _ _ c.replace_delay.ensures.times c.replace_delay.ensures.here
+                (taken_trains checked answer) (checked.times fine) (checked.leavers fine) lent _ _ c.settle.ensures;
           });
       kept = λ r e. refused_not_fine (sym e ∙ fine);
     }

@@ -23,7 +23,7 @@ check_own-requires c =
     let answer = c.in_ok-head.was in
     let both = then_fine _ (sheet_verdict _) (taken_fine checked answer) in
     let few = (accepted_of_fine _ both.1).numbers.trains_most in
-    (omega (arith, few, taken_trains checked answer), c.requires.0 both.0)
+    (omega (arith, few, taken_trains checked answer), c.requires both.0)
 
 -- the report is refused
 pub returns-in_err-check_own : goal.returns-in_err-check_own
