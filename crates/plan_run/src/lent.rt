@@ -1,0 +1,29 @@
+// The buffers that a record or a step lends, and their lengths.
+use records::source::short;
+use std::io;
+use std::io::Read;
+
+#[derive(Clone, Copy)]
+pub struct Lists<'a> {
+    pub cells: &'a [u64],
+    pub decisions: &'a [u8],
+    pub delays: &'a [u32],
+}
+
+#[derive(Clone, Copy)]
+pub struct Lengths {
+    pub cells: usize,
+    pub decisions: usize,
+    pub delays: usize,
+}
+
+impl Lengths {
+    // The next three numbers of the input.
+    pub fn next<R: Read>(from: &mut R) -> io::Result<Lengths> {
+        Ok(Lengths {
+            cells: short(from)?,
+            decisions: short(from)?,
+            delays: short(from)?,
+        })
+    }
+}
