@@ -4,15 +4,16 @@
 // 3,908 bytes, which is enough to refuse it.
 #![tactic(auto)]
 
-ghost use Rattle.std.specs.Prelude.{◌≤◌, length, IfOk};
+ghost use Rattle.std.specs.Prelude.{◌≡◌, ◌≤◌, length, IfOk};
 ghost use Rattle.sheet.specs.Accepted.{AcceptedSheet};
+ghost use Rattle.sheet.specs.Format.{trains_of};
 
 use bits::field;
 use planner::plan;
 use sheet::format::{TRAINS_AT, TRAINS_WIDTH};
 use std::io;
 use std::io::{Read, Write};
-use terms::{Answer, Refusal};
+use terms::Answer;
 
 // Reads until the buffer is full or the input ends, and answers how many bytes were read.
 fn read_full<R: Read>(from: &mut R, buffer: &mut [u8]) -> io::Result<usize>
@@ -27,10 +28,6 @@ fn read_full<R: Read>(from: &mut R, buffer: &mut [u8]) -> io::Result<usize>
         n += more;
     }
     Ok(n)
-}
-
-fn print_refusal<W: Write>(out: &mut W, refusal: Refusal) -> io::Result<()> {
-    writeln!(out, "refused {} {}", refusal.number(), refusal.place())
 }
 
 // Train 1 has no feeder to wait for.
@@ -54,7 +51,8 @@ fn print_trains<W: Write>(out: &mut W, decisions: &[u8], delays: &[u32]) -> io::
 #[tactic(auto, using(crate::proofs::Head::head_within))]
 fn trains(sheet: &[u8]) -> usize
     requires { AcceptedSheet sheet.now }
-    ensures { result ≤ 64 }
+    ensures is { result ≡ trains_of sheet.now }
+    ensures most { result ≤ 64 }
 {
     field(sheet, TRAINS_AT, TRAINS_WIDTH) as usize
 }
@@ -69,7 +67,9 @@ fn main(rt: HostRuntime) -> io::Result<()> {
     let answer = plan(sheet, &mut cells, &mut decisions, &mut delays);
     let mut out = rt.stdout();
     match answer {
-        Answer::Refused(refusal) => print_refusal(&mut out, refusal),
+        Answer::Refused(refusal) => {
+            writeln!(out, "refused {} {}", refusal.number(), refusal.place())
+        }
         Answer::Accepted(total) => {
             writeln!(out, "total {total}")?;
             let m = trains(sheet);

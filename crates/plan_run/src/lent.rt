@@ -3,6 +3,11 @@ use records::source::short;
 use std::io;
 use std::io::Read;
 
+// The places of the longest lists that can be lent: for cells, and for trains.
+pub const CELLS: usize = 4100;
+
+pub const TRAINS: usize = 70;
+
 #[derive(Clone, Copy)]
 pub struct Lists<'a> {
     pub cells: &'a [u64],

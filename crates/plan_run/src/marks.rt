@@ -3,10 +3,9 @@
 ghost use Rattle.std.specs.Prelude.{◌≡◌, ℕ, ◌*◌};
 ghost use Rattle.lists.specs.Run.{listed};
 
-// As many cells as a record can lend.
-pub const CELLS: usize = 4100;
+use crate::lent::CELLS;
 
-// The cells, each with its mark.
+// As many cells as a record can lend, each with its mark.
 pub fn all() -> [u64; CELLS]
     ensures { result ≡ listed (λ (k : ℕ). k * 1000003) 1 4100 }
 {

@@ -1,9 +1,8 @@
 // Records of plan.
-use crate::lent::{Lengths, Lists};
-use crate::marks::CELLS;
+use crate::lent::{CELLS, Lengths, Lists, TRAINS};
 use crate::shown::Shown;
 use crate::{changes, marks, shown};
-use records::source::short;
+use records::source::SHEET;
 use records::{Answered, source};
 use std::io;
 use std::io::{Read, Write};
@@ -12,11 +11,11 @@ use std::io::{Read, Write};
 // written is seen.
 fn plan<W: Write>(out: &mut W, sheet: &[u8], lent: Lengths, shown: Shown) -> io::Result<()> {
     let mut cells = marks::all();
-    let mut decisions = [7u8; 70];
-    let mut delays = [77777u32; 70];
+    let mut decisions = [7u8; TRAINS];
+    let mut delays = [77_777u32; TRAINS];
     let cells = &mut cells[..lent.cells.min(CELLS)];
-    let decisions = &mut decisions[..lent.decisions.min(70)];
-    let delays = &mut delays[..lent.delays.min(70)];
+    let decisions = &mut decisions[..lent.decisions.min(TRAINS)];
+    let delays = &mut delays[..lent.delays.min(TRAINS)];
     let answer = planner::plan(sheet, cells, decisions, delays);
     let lists = Lists {
         cells,
@@ -36,9 +35,7 @@ fn plan<W: Write>(out: &mut W, sheet: &[u8], lent: Lengths, shown: Shown) -> io:
 // A record: the lengths of cells, decisions and delays, then the sheet's length and the sheet.
 pub fn record<R: Read, W: Write>(from: &mut R, out: &mut W, shown: Shown) -> io::Result<()> {
     let lent = Lengths::next(from)?;
-    let n = short(from)?;
-    let mut sheet = [0u8; 4000];
-    let sheet = &mut sheet[..n.min(4000)];
-    source::load(from, sheet)?;
+    let mut room = [0u8; SHEET];
+    let sheet = source::sheet(from, &mut room)?;
     plan(out, sheet, lent, shown)
 }

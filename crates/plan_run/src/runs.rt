@@ -1,11 +1,10 @@
 // Runs: one sheet and one set of working cells, kept over several steps. A step sets a cell ('C'),
 // plans ('P') or reports a delay ('D').
-use crate::lent::{Lengths, Lists};
-use crate::marks::CELLS;
+use crate::lent::{CELLS, Lengths, Lists, TRAINS};
 use crate::printed::Listed;
 use crate::shown::Shown;
 use crate::{changes, marks, shown};
-use records::source::{byte, long, number, short};
+use records::source::{SHEET, byte, long, number, short};
 use records::{Answered, source, sums};
 use std::io;
 use std::io::{Read, Write};
@@ -79,10 +78,10 @@ fn ask<W: Write>(
     shown: Shown,
 ) -> io::Result<()> {
     let before = *cells;
-    let mut decisions = [7u8; 70];
-    let mut delays = [77777u32; 70];
-    let decisions = &mut decisions[..lent.decisions.min(70)];
-    let delays = &mut delays[..lent.delays.min(70)];
+    let mut decisions = [7u8; TRAINS];
+    let mut delays = [77_777u32; TRAINS];
+    let decisions = &mut decisions[..lent.decisions.min(TRAINS)];
+    let delays = &mut delays[..lent.delays.min(TRAINS)];
     let answer = call.run(
         sheet,
         &mut cells[..lent.cells.min(CELLS)],
@@ -114,10 +113,8 @@ fn ask<W: Write>(
 
 // A record: the sheet's length and the sheet, then the number of steps and the steps.
 pub fn record<R: Read, W: Write>(from: &mut R, out: &mut W, shown: Shown) -> io::Result<()> {
-    let n = short(from)?;
-    let mut sheet = [0u8; 4000];
-    let sheet = &mut sheet[..n.min(4000)];
-    source::load(from, sheet)?;
+    let mut room = [0u8; SHEET];
+    let sheet = source::sheet(from, &mut room)?;
     let mut cells = marks::all();
     for _ in 0..short(from)? {
         match Step::next(from)? {

@@ -46,6 +46,17 @@ pub fn long<R: Read>(from: &mut R) -> io::Result<u64> {
     Ok(u64::from_be_bytes(next(from)?))
 }
 
+// As many bytes as a sheet can have here.
+pub const SHEET: usize = 4000;
+
+// A sheet: its length, cut to the room that there is, and its bytes.
+pub fn sheet<'a, R: Read>(from: &mut R, room: &'a mut [u8; SHEET]) -> io::Result<&'a mut [u8]> {
+    let length = short(from)?.min(SHEET);
+    let sheet = &mut room[..length];
+    load(from, sheet)?;
+    Ok(sheet)
+}
+
 // A list of numbers of four bytes.
 pub fn list<R: Read>(from: &mut R, numbers: &mut [u32]) -> io::Result<()> {
     for place in numbers {

@@ -1,9 +1,17 @@
 // The four lists that a record lends, and their lengths.
+ghost use Rattle.std.specs.Prelude.{◌≡◌, ◌≤◌, take};
+ghost use Rattle.sheet.specs.Format.{pairs_of};
+
 use records::front;
 use records::source::short;
 use sheet::format::pairs_of;
 use std::io;
 use std::io::Read;
+
+// The places of the longest lists that a record can lend: for trains, and for passengers.
+pub const TRAINS: usize = 70;
+
+pub const PASSENGERS: usize = 2100;
 
 #[derive(Clone, Copy)]
 pub struct Lists<'a> {
@@ -33,7 +41,10 @@ impl Lengths {
     }
 
     // Those of m trains, of which read never answers more than 64.
-    pub fn of_trains(m: usize) -> Lengths {
+    pub fn of_trains(m: usize) -> Lengths
+        ensures trains { (result.departures ≡ m) × (result.driving ≡ m) × (result.delays ≡ m) }
+        ensures passengers { m ≤ 64 → result.passengers ≡ pairs_of m }
+    {
         Lengths {
             departures: m,
             driving: m,
@@ -45,7 +56,12 @@ impl Lengths {
 
 impl<'a> Lists<'a> {
     // As many places of each list as are asked for, or all that it has.
-    pub fn front(self, lengths: Lengths) -> Lists<'a> {
+    pub fn front(self, lengths: Lengths) -> Lists<'a>
+        ensures departures { result.departures.now ≡ take lengths.departures self.entry.departures.now }
+        ensures driving { result.driving.now ≡ take lengths.driving self.entry.driving.now }
+        ensures delays { result.delays.now ≡ take lengths.delays self.entry.delays.now }
+        ensures passengers { result.passengers.now ≡ take lengths.passengers self.entry.passengers.now }
+    {
         Lists {
             departures: front(self.departures, lengths.departures),
             driving: front(self.driving, lengths.driving),

@@ -39,5 +39,5 @@ impl Kind for Asked {
 }
 
 pub fn run<R: Read, W: Write>(from: &mut R, out: &mut W) -> io::Result<()> {
-    records::run::<Asked, R, W>(from, out)
+    records::run::<Asked, _, _>(from, out)
 }

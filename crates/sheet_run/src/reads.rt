@@ -1,9 +1,9 @@
 // Records of read.
-use crate::lent::{Lengths, Lists};
+use crate::lent::{Lengths, Lists, PASSENGERS, TRAINS};
 use crate::writes;
 use crate::writes::BEFORE;
 use reader::Reading;
-use records::source::short;
+use records::source::SHEET;
 use records::{source, sums};
 use std::io;
 use std::io::{Read, Write};
@@ -40,14 +40,14 @@ fn back<W: Write>(out: &mut W, answer: Reading, lists: Lists) -> io::Result<()> 
 
 // Reads a sheet into lists of 77s of these lengths.
 fn read<W: Write>(out: &mut W, sheet: &[u8], lent: Lengths) -> io::Result<()> {
-    let mut departures = [77u32; 70];
-    let mut driving = [77u32; 70];
-    let mut delays = [77u32; 70];
-    let mut passengers = [77u32; 2100];
-    let departures = &mut departures[..lent.departures.min(70)];
-    let driving = &mut driving[..lent.driving.min(70)];
-    let delays = &mut delays[..lent.delays.min(70)];
-    let passengers = &mut passengers[..lent.passengers.min(2100)];
+    let mut departures = [77u32; TRAINS];
+    let mut driving = [77u32; TRAINS];
+    let mut delays = [77u32; TRAINS];
+    let mut passengers = [77u32; PASSENGERS];
+    let departures = &mut departures[..lent.departures.min(TRAINS)];
+    let driving = &mut driving[..lent.driving.min(TRAINS)];
+    let delays = &mut delays[..lent.delays.min(TRAINS)];
+    let passengers = &mut passengers[..lent.passengers.min(PASSENGERS)];
     let answer = reader::read(sheet, departures, driving, delays, passengers);
     let lists = Lists {
         departures,
@@ -61,9 +61,7 @@ fn read<W: Write>(out: &mut W, sheet: &[u8], lent: Lengths) -> io::Result<()> {
 
 pub fn record<R: Read, W: Write>(from: &mut R, out: &mut W) -> io::Result<()> {
     let lent = Lengths::next(from)?;
-    let n = short(from)?;
-    let mut sheet = [0u8; 4000];
-    let sheet = &mut sheet[..n.min(4000)];
-    source::load(from, sheet)?;
+    let mut room = [0u8; SHEET];
+    let sheet = source::sheet(from, &mut room)?;
     read(out, sheet, lent)
 }

@@ -1,6 +1,6 @@
 // Records of write.
-use crate::lent::{Lengths, Lists};
-use records::source::{list, number, short};
+use crate::lent::{Lengths, Lists, PASSENGERS, TRAINS};
+use records::source::{SHEET, list, number, short};
 use records::{Answered, sums};
 use std::io;
 use std::io::{Read, Write};
@@ -42,14 +42,14 @@ pub fn record<R: Read, W: Write>(from: &mut R, out: &mut W) -> io::Result<()> {
     let period = number(from)?;
     let lent = Lengths::next(from)?;
     let room = short(from)?;
-    let mut departures = [0u32; 70];
-    let mut driving = [0u32; 70];
-    let mut delays = [0u32; 70];
-    let mut passengers = [0u32; 2100];
-    let departures = &mut departures[..lent.departures.min(70)];
-    let driving = &mut driving[..lent.driving.min(70)];
-    let delays = &mut delays[..lent.delays.min(70)];
-    let passengers = &mut passengers[..lent.passengers.min(2100)];
+    let mut departures = [0u32; TRAINS];
+    let mut driving = [0u32; TRAINS];
+    let mut delays = [0u32; TRAINS];
+    let mut passengers = [0u32; PASSENGERS];
+    let departures = &mut departures[..lent.departures.min(TRAINS)];
+    let driving = &mut driving[..lent.driving.min(TRAINS)];
+    let delays = &mut delays[..lent.delays.min(TRAINS)];
+    let passengers = &mut passengers[..lent.passengers.min(PASSENGERS)];
     list(from, departures)?;
     list(from, driving)?;
     list(from, delays)?;
@@ -60,13 +60,13 @@ pub fn record<R: Read, W: Write>(from: &mut R, out: &mut W) -> io::Result<()> {
         delays,
         passengers,
     };
-    let mut buffer = [BEFORE; 4000];
+    let mut buffer = [BEFORE; SHEET];
     show(
         out,
         "write",
         m,
         period,
         lists,
-        &mut buffer[..room.min(4000)],
+        &mut buffer[..room.min(SHEET)],
     )
 }
