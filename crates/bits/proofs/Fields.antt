@@ -1,16 +1,9 @@
 -- Laws of fields, once over the width: one bit more, the range, two fields side by side, and fields against bits.
 -- Assumes nothing.
-use mathlib.Core.Path.{◌≡◌, refl, sym, ap₂, subst}
-use mathlib.Core.List.{List}
-use mathlib.Core.Logic.{⊎_elim}
-use Prim.Native.Nat.{ℕ, zero, suc, ◌+◌, ◌*◌, ◌^◌, ◌≤◌, ◌<◌}
-use native.Mathlib.Nat.{mod-lt, pow-suc, add-suc, add-zero, add_assoc, mul_assoc, not-suc-le-zero, eq-or-lt_of_le}
-use native.Mathlib.Nat.{le_of_suc-le-suc, suc_inj, lt_of_lt_of_le}
-use native.Mathlib.Numerals.{add-one}
-use native.Mathlib.Omega.{arith}
-use lib.Dec.{lit<}
-use lib.ListN.{length}
-use lib.Pow.{pow_mono}
+use Rattle.std.proofs.Common.{◌≡◌, refl, sym, ap₂, subst, List, ⊎_elim, ℕ, zero, suc, ◌+◌, ◌*◌, ◌^◌, ◌≤◌, ◌<◌, mod-lt}
+use Rattle.std.proofs.Common.{pow-suc, add-suc, add-zero, add_assoc, mul_assoc, not-suc-le-zero, eq-or-lt_of_le}
+use Rattle.std.proofs.Common.{le_of_suc-le-suc, lt_of_lt_of_le, add-one, arith, lit<, length, pow_mono}
+use native.Mathlib.Nat.{suc_inj}
 use Rattle.bits.specs.Field.{bit_at, field_of, Within}
 
 pub bit_lt : (s : List ℕ) (i : ℕ) → bit_at s i < 2
@@ -72,3 +65,6 @@ same_bits s t at (suc w) e i l =
 -- a field lies as well within other bytes of the same length
 pub within_same : {s t : List ℕ} {at w : ℕ} → Within s at w → length t ≡ length s → Within t at w
 within_same h e = record { inside = omega (arith, h.inside); narrow = h.narrow; near = h.near }
+
+-- what a loop that reads a field bit by bit needs
+pub ruleset reading = (field_none, field_more, field_small, bit_lt)

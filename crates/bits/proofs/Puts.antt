@@ -1,20 +1,14 @@
 -- Laws of a field that is put: fields apart from it stay, one bit, one bit more in front; and for a number that fits
 -- there is a result, and only one.
 -- Assumes nothing.
-use mathlib.Core.Path.{◌≡◌, refl, sym, ap₂, subst, ◌∙◌}
-use mathlib.Core.List.{List}
-use mathlib.Core.Logic.{inl, inr, ⊎_elim}
-use Prim.Native.Nat.{ℕ, zero, suc, ◌+◌, ◌-◌, ◌*◌, ◌/◌, ◌%◌, ◌^◌, ◌≤◌, ◌<◌}
-use native.Mathlib.Nat.{mod-lt, div-add-mod'}
+use Rattle.std.proofs.Common.{◌≡◌, refl, sym, ap₂, subst, ◌∙◌, List, inl, inr, ⊎_elim, ℕ, zero, suc, ◌+◌, ◌-◌, ◌*◌, ◌/◌}
+use Rattle.std.proofs.Common.{◌%◌, ◌^◌, ◌≤◌, ◌<◌, mod-lt, div-add-mod', arith, pow_pos, shr_lt, length, get_or, set}
+use Rattle.std.proofs.Common.{length-set, get_or-set_same, get_or-set_other}
 use native.Mathlib.Decide.{ℕ_discrete}
-use native.Mathlib.Omega.{arith}
-use lib.Pow.{pow_pos, shr_lt}
-use lib.ListN.{length, get_or, set, length-set}
-use lib.Seq.{get_or-set_same, get_or-set_other}
-use Rattle.lists.proofs.Order.{lt_or_ge}
+use Rattle.std.proofs.lemmas.Bool.{cases_lt}
 use Rattle.bits.specs.Field.{bit_at, field_of, Apart, Put, BitPut, Bytes}
 use Rattle.bits.proofs.Fields.{field_none, field_bit, field_split, field_same, same_bits}
-use Rattle.bits.proofs.Bytes.{machine, bytes_ext}
+use Rattle.bits.proofs.Bytes.{byte_put, bytes_ext}
 
 -- every field that lies apart from the one put is as it was
 pub put_apart : {s t : List ℕ} {at w v : ℕ} → Put s at w v t → (a u : ℕ) → Apart a u at w
@@ -73,8 +67,8 @@ put_unique {s} {t} {u} {at} {w} g h bt bu =
     let e : at + (i - at) ≡ i = omega arith in
     subst (λ (j : ℕ). bit_at t j ≡ bit_at u j) e (same_bits t u at w (g.holds ∙ sym h.holds) (i - at) (omega arith)))
     (λ (q : at + w ≤ i). away (inr q))
-    (lt_or_ge i (at + w)))
-    (lt_or_ge i at))
+    (cases_lt i (at + w)))
+    (cases_lt i at))
 
 -- ---- a number that fits its field can be put
 
@@ -95,7 +89,7 @@ puttable_more : (s : List ℕ) (at k b x : ℕ) → b < 2 → at < 8 * length s 
 puttable_more s at k b x bit room low =
     let t = low.result in
     let in_sheet : at < 8 * length t = omega (arith, low.put.long) in
-    let byte = machine (get_or t (at / 8) 0) (7 - at % 8) b bit (low.bytes (at / 8)) (omega arith) in
+    let byte = byte_put (get_or t (at / 8) 0) (7 - at % 8) b (low.bytes (at / 8)) (omega arith) bit in
     record {
       result = set t (at / 8) _;
       bytes = bytes_set t (at / 8) _ low.bytes (omega arith) byte.small;

@@ -10,7 +10,7 @@ use native.Mathlib.Nat.{le_refl, le_trans, le_of_eq, mul_comm, mul-le-mul}
 use native.Mathlib.Omega.{arith}
 use lib.ListN.{length, get_or, set, length-set}
 use lib.Seq.{get_or-set_same, get_or-set_other}
-use Rattle.lists.proofs.Order.{same_or_not}
+use Rattle.std.proofs.lemmas.Bool.{cases_eq}
 use Rattle.line.specs.Line.{Running}
 use Rattle.line.specs.Cells.{Book, excess_on, arrival_on}
 use Rattle.line.specs.Ranges.{latest, everyone, limit}
@@ -145,7 +145,7 @@ module _ (m k : ℕ) (timing sums : List ℕ) where
           ahead = ap (λ (d : ℕ). d - slack_in timing (i + 1)) late_is ∙ sym (excess_on_next R k i S.from);
           small = rw (ea, ex) turn_late;
           counted = omega (arith, turn_leaves);
-          done = λ l u v. elim (same_or_not l i) [
+          done = λ l u v. elim (cases_eq l i) [
             | inl same ↦ rw same (put_at costs i x y z S.long pos most B k (ex ∙ S.ahead)
                 (rw (ey, en, late_is)) (rw (ez, aboard_is, et) (mul_comm _ _)))
             | inr not ↦ put_stands costs i x y z S.long pos most B k l (omega (arith, S.first)) (omega arith) not

@@ -2,17 +2,12 @@
 -- equal places; and of the lists made of a run. A loop states what it has still to
 -- do as a run that equals its goal: `run_next` is its turn, `run_none` its end.
 -- Assumes nothing.
-use mathlib.Core.Path.{◌≡◌, refl, sym, ap, ap₂, subst, ◌∙◌}
-use mathlib.Core.List.{List}
-use mathlib.Core.Logic.{⊎_elim}
-use Prim.Native.Nat.{ℕ, zero, suc, ◌+◌, ◌-◌, ◌≤◌, ◌<◌}
-use native.Mathlib.Nat.{not-suc-le-zero, le_of_suc-le-suc, add-zero}
-use native.Mathlib.Omega.{arith}
-use lib.ListN.{length, get_or, get_or-eq_default}
-use lib.Seq.{ext_get_or}
+use Rattle.std.proofs.Common.{◌≡◌, refl, sym, ap, ap₂, subst, ◌∙◌, List, ⊎_elim, ℕ, zero, suc, ◌+◌, ◌-◌, ◌≤◌, ◌<◌}
+use Rattle.std.proofs.Common.{not-suc-le-zero, le_of_suc-le-suc, add-zero, arith, length, get_or, ext_get_or}
+use lib.ListN.{get_or-eq_default}
+use Rattle.std.proofs.lemmas.Bool.{cases_lt}
 use Rattle.lists.specs.Run.{run_of, listed, padded, nth}
 use Rattle.lists.proofs.Choice.{below_yes, below_no}
-use Rattle.lists.proofs.Order.{lt_or_ge}
 
 module _ {A B : Type 0} (step : A → B → B) (done : B) where
   pub run_next : (f : ℕ → A) (i n : ℕ) → 0 < n
@@ -66,7 +61,7 @@ padded_past size n f k l =
     ⊎_elim
     (λ (m : k < size). listed_at _ 0 1 size k m ∙ below_yes _ _ (omega arith))
     (λ (m : size ≤ k). get_or-eq_default (padded size n f) 0 (rw (padded_length size n f) m))
-    (lt_or_ge k size)
+    (cases_lt k size)
 
 -- place i, from 1, of a list that is this one
 pub padded_nth : (l : List ℕ) (size n : ℕ) (f : ℕ → ℕ) → l ≡ padded size n f → n ≤ size → (i : ℕ) → 1 ≤ i → i ≤ n
@@ -86,7 +81,7 @@ padded_ext size n f l e g h =
     ⊎_elim
     (λ (c : k < n). g k c m ∙ sym (padded_at size n f k c m))
     (λ (c : n ≤ k). h k c ∙ sym (padded_past size n f k c))
-    (lt_or_ge k n))
+    (cases_lt k n))
 
 -- equal where f and g are, on 1 to n
 pub padded_same : (size n : ℕ) (f g : ℕ → ℕ) → ((i : ℕ) → 1 ≤ i → i ≤ n → f i ≡ g i)
@@ -98,7 +93,7 @@ padded_same size n f g same =
     ⊎_elim
     (λ (u : n < i). below_yes _ _ u ∙ sym (below_yes _ _ u))
     (λ (u : i ≤ n). below_no _ _ u ∙ same i a u ∙ sym (below_no _ _ u))
-    (lt_or_ge n i))
+    (cases_lt n i))
 
 -- ---- functions whose values are listed
 

@@ -21,9 +21,7 @@ use crate::settling::settle;
 use bits::put;
 use cells::sums::SUMS;
 use cells::timing::{TIMING, set_source};
-use lists::{fill_u8, fill_u32};
 use prepare::prepare;
-use reader::Reading;
 use sheet::format::Column;
 use terms::{Answer, Refusal, Train};
 
@@ -32,7 +30,7 @@ const BLANK: u8 = 2;
 
 // What a refusal leaves: blanks, or nothing written where the refusal is for a length.
 fn refuse(refusal: Refusal, decisions: &mut [u8], delays: &mut [u32]) -> Answer
-    ensures { (result ≡ Answer.Refused refusal)
+    ensures { (result ≡ Err refusal)
         × (decisions.new ≡
         (if blanks_of refusal then replicate (length decisions.old) 2
         else decisions.old))
@@ -41,10 +39,10 @@ fn refuse(refusal: Refusal, decisions: &mut [u8], delays: &mut [u32]) -> Answer
         else delays.old)) }
 {
     if refusal.blanks() {
-        fill_u8(decisions, BLANK);
-        fill_u32(delays, 0);
+        decisions.fill(BLANK);
+        delays.fill(0);
     }
-    Answer::Refused(refusal)
+    Err(refusal)
 }
 
 // Plans the line of a sheet: cells, decisions and delays into the lent buffers, the total as the
@@ -59,11 +57,11 @@ pub fn plan(sheet: &[u8], cells: &mut [u64], decisions: &mut [u8], delays: &mut 
     let lengths = check_buffers(cells.len(), decisions.len(), delays.len());
     let mut timing = [0u32; TIMING];
     let mut sums = [0u32; SUMS];
-    let checked = prepare(lengths, sheet, &mut timing, &mut sums);
-    match checked {
-        Reading::Refused(refusal) => refuse(refusal, decisions, delays),
-        Reading::Accepted(m, _) => {
-            Answer::Accepted(settle(m, Train(m), cells, decisions, delays, &timing, &sums))
+    match prepare(lengths, sheet, &mut timing, &mut sums) {
+        Err(refusal) => refuse(refusal, decisions, delays),
+        Ok(head) => {
+            let m = head.trains;
+            Ok(settle(m, Train(m), cells, decisions, delays, &timing, &sums))
         }
     }
 }
@@ -110,12 +108,12 @@ pub fn report(
     let lengths = check_buffers(cells.len(), decisions.len(), delays.len());
     let mut timing = [0u32; TIMING];
     let mut sums = [0u32; SUMS];
-    let checked = check_report(lengths, sheet, train, delay, cells, &mut timing, &mut sums);
-    match checked {
-        Reading::Refused(refusal) => refuse(refusal, decisions, delays),
-        Reading::Accepted(m, _) => {
+    match check_report(lengths, sheet, train, delay, cells, &mut timing, &mut sums) {
+        Err(refusal) => refuse(refusal, decisions, delays),
+        Ok(head) => {
             replace_delay(sheet, &mut timing, train, delay);
-            Answer::Accepted(settle(m, train, cells, decisions, delays, &timing, &sums))
+            let m = head.trains;
+            Ok(settle(m, train, cells, decisions, delays, &timing, &sums))
         }
     }
 }

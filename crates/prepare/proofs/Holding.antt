@@ -6,7 +6,7 @@ use mathlib.Core.Logic.{inl, inr}
 use Prim.Native.Nat.{ℕ, ◌+◌, ◌-◌, ◌≤◌}
 use native.Mathlib.Omega.{arith}
 use lib.ListN.{length, set, length-set}
-use Rattle.lists.proofs.Order.{same_or_not}
+use Rattle.std.proofs.lemmas.Bool.{cases_eq}
 use Rattle.lists.proofs.Choice.{same_yes, same_no}
 use Rattle.line.proofs.Sums.{sum_over, over_same}
 use Rattle.sheet.specs.Numbers.{Times, Numbers}
@@ -69,19 +69,19 @@ module _ (i T : ℕ) (x : Times) (timing : List ℕ) (minutes : ℕ) (least : 1 
         long = simp length-set H.long;
         slack = λ j a b.
             slack_stands with_source _ T j (λ e. omega arith) ∙ slack_stands with_slack _ _ j (λ e. omega arith)
-            ∙ elim (same_or_not j i) [
+            ∙ elim (cases_eq j i) [
               | inl same ↦ rw same (slack_set timing _ minutes i refl (omega arith) ∙ taken (omega arith))
               | inr not ↦ slack_stands timing _ minutes j (λ e. not (omega arith)) ∙ H.slack j a (omega arith)
             ];
         source = λ j a b.
             source_stands with_source _ T j (λ e. omega arith)
-            ∙ elim (same_or_not j i) [
+            ∙ elim (cases_eq j i) [
               | inl same ↦ rw same (source_set with_slack _ _ i refl (simp length-set (omega arith)))
               | inr not ↦
                   source_stands with_slack _ _ j (λ e. not (omega arith))
                   ∙ source_stands timing _ minutes j (λ e. omega arith) ∙ H.source j a (omega arith)
             ];
-        period = λ j a b. elim (same_or_not j i) [
+        period = λ j a b. elim (cases_eq j i) [
           | inl same ↦ rw same (period_set with_source _ T i refl (simp length-set (omega arith)))
           | inr not ↦
               period_stands with_source _ T j (λ e. not (omega arith))
@@ -105,7 +105,7 @@ timing_with_delay N i v timing least most few H =
     record {
       long = simp length-set H.long;
       slack = λ j a b. slack_stands timing _ v j (λ e. omega arith) ∙ H.slack j a b;
-      source = λ j a b. elim (same_or_not j i) [
+      source = λ j a b. elim (cases_eq j i) [
         | inl same ↦ rw same (source_set timing _ v i refl (omega arith)) ∙ sym (same_yes v _ same)
         | inr not ↦ source_stands timing _ v j (λ e. not (omega arith)) ∙ H.source j a b ∙ sym (same_no v _ not)
       ];

@@ -10,7 +10,7 @@ use native.Mathlib.Nat.{le_refl}
 use native.Mathlib.Omega.{arith}
 use lib.ListN.{set, length-set}
 use lib.Seq.{get_or-set_same, get_or-set_other}
-use Rattle.lists.proofs.Order.{same_or_not}
+use Rattle.std.proofs.lemmas.Bool.{cases_eq}
 use Rattle.line.specs.Sum.{sum◌from◌to◌}
 use Rattle.line.proofs.Sums.{sum_over, over_none, over_first}
 use Rattle.cells.specs.Sums.{place_of_sum, leaving_in}
@@ -41,7 +41,7 @@ module _ (n : ℕ → ℕ → ℕ) (l : ℕ) (sums : List ℕ) where
   column_end v k C e =
       record {
         long = C.before.long;
-        leaving = λ i t a b c. elim (same_or_not t l) [
+        leaving = λ i t a b c. elim (cases_eq t l) [
           | inl same ↦ rw same (C.summed i (omega arith) (omega arith))
           | inr not ↦ C.before.leaving i t a b (omega arith)
         ];
@@ -92,7 +92,7 @@ module _ (n : ℕ → ℕ → ℕ) (l : ℕ) (sums : List ℕ) (v k p u : ℕ) (
         };
         last = rw back next_sum;
         small = omega arith;
-        summed = λ i a b. elim (same_or_not i k) [
+        summed = λ i a b. elim (cases_eq i k) [
           | inl same ↦ rw same (stored_here ∙ next_sum)
           | inr not ↦
               stored_other i l (omega arith) (omega arith) (le_refl l) (λ x y. not x) ∙ C.summed i (omega arith) b

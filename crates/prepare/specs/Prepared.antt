@@ -7,13 +7,12 @@
 --   Prepared checks s timing sums r      what is answered for the sheet s after these checks, and stands in the lists
 -- Assumes nothing.
 use Rattle.std.specs.Prelude.{ℕ, ◌+◌, ◌-◌, ◌≤◌, ◌≡◌, List, length}
-use Rattle.terms.specs.declared.Verdict.{Verdict}
-use Rattle.terms.specs.declared.Verdict.TheVariants.{Fine}
+use Rattle.terms.specs.Verdict.{Verdict, Fine}
+use Rattle.reader.specs.Reading.{Reading}
 use Rattle.line.specs.Sum.{sum◌from◌to◌}
 use Rattle.sheet.specs.Format.{trains_of, period_of}
 use Rattle.sheet.specs.Numbers.{Times, Numbers, numbers_of}
 use Rattle.sheet.specs.Pairs.{passengers_of_pair}
-use Rattle.reader.specs.declared.Reading.{Reading}
 use Rattle.reader.specs.Reading.{reading_of}
 use Rattle.cells.specs.Timing.{timing_count, slack_in, source_in, period_in}
 use Rattle.cells.specs.Sums.{sums_count, leaving_in}

@@ -28,18 +28,23 @@ fn prepare_sheet(sheet: &[u8], timing: &mut [u32], sums: &mut [u32]) -> Reading
     let mut driving = [0u32; 64];
     let mut delays = [0u32; 64];
     let mut passengers = [0u32; 2080];
-    let answer = decode(
+    let head = decode(
         sheet,
         &mut departures,
         &mut driving,
         &mut delays,
         &mut passengers,
+    )?;
+    fill_timing(
+        timing,
+        head.trains,
+        head.period,
+        &departures,
+        &driving,
+        &delays,
     );
-    if let Reading::Accepted(m, period) = answer {
-        fill_timing(timing, m, period, &departures, &driving, &delays);
-        sum_columns(sums, &passengers, m);
-    }
-    answer
+    sum_columns(sums, &passengers, head.trains);
+    Ok(head)
 }
 
 // The same, unless an earlier check refused.
@@ -48,8 +53,6 @@ pub fn prepare(earlier: Verdict, sheet: &[u8], timing: &mut [u32], sums: &mut [u
     ensures { Prepared (earlier and_then sheet_verdict sheet.now)
         sheet.now timing.new sums.new result }
 {
-    if let Verdict::Refused(refusal) = earlier {
-        return Reading::Refused(refusal);
-    }
+    earlier?;
     prepare_sheet(sheet, timing, sums)
 }

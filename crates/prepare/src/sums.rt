@@ -28,13 +28,11 @@ fn sum_column(sums: &mut [u32], passengers: &[u32], m: u32, train: Train)
     let last = train.leaves();
     let to = train.reaches();
     let mut sum: u32 = 0;
-    let mut k = last.0;
-    while 0 < k {
+    for k in (1..=last.0).rev() {
         let from = Station(k);
         sum += pair(passengers, m, from, to);
         let at = place_of_sum(from, train);
         sums[at] = sum;
-        k -= 1;
     }
 }
 
@@ -43,9 +41,7 @@ pub fn sum_columns(sums: &mut [u32], passengers: &[u32], m: u32)
     requires { FieldsGiven m passengers.now × (length sums.old ≡ sums_count) }
     ensures { HoldsSums m (pair_in m passengers.now) sums.new }
 {
-    let mut i = 1;
-    while i <= m {
+    for i in 1..=m {
         sum_column(sums, passengers, m, Train(i));
-        i += 1;
     }
 }

@@ -63,9 +63,7 @@ pub fn fill_timing(
         (times_in departures.now driving.now delays.now)
         timing.new }
 {
-    let mut i = 1;
-    while i <= m {
+    for i in 1..=m {
         set_times(timing, Train(i), period, departures, driving, delays);
-        i += 1;
     }
 }

@@ -10,7 +10,7 @@ use native.Mathlib.Omega.{arith}
 use lib.ListN.{length, get_or, set, length-set, get_or-eq_default}
 use lib.Seq.{get_or-set_same, get_or-set_other}
 use Rattle.lists.specs.Run.{nth}
-use Rattle.lists.proofs.Order.{same_or_not}
+use Rattle.std.proofs.lemmas.Bool.{cases_eq}
 use Rattle.line.specs.Cells.{lesser}
 use Rattle.line.specs.Ranges.{limit}
 use Rattle.cells.specs.Costs.{excess_in, keep_in, go_in}
@@ -48,7 +48,7 @@ module _ (k n : ℕ) (costs diagonal : List ℕ) where
         → get_or (set row (j - 1) v) i 0 ≡ cell_from i (get_or (set row (j - 1) v) (i + 1) 0)
     cells_back i a b =
         let after = get_or-set_other row (j - 1) (i + 1) v 0 (λ q. omega arith) in
-        elim (same_or_not i (j - 1)) [
+        elim (cases_eq i (j - 1)) [
           | inl same ↦
               let next_is : i + 1 ≡ j = omega arith in
               rw (after, next_is, sym F.here, same) (here_is ∙ e)

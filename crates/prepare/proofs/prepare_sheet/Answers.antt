@@ -1,10 +1,9 @@
 -- `prepare_sheet` meets its contract: an accepted sheet fills both lists, a refused one none.
-use mathlib.Core.Path.{refl, sym, ◌∙◌}
-use lib.ListN.{replicate}
+use Rattle.std.proofs.Common.{◌≡◌, refl, sym, ◌∙◌, replicate, Err, rules}
 use Rattle.sheet.specs.Numbers.{lists}
 use Rattle.sheet.specs.Checks.{sheet_verdict}
 use Rattle.sheet.specs.Accepted.{Lengths}
-use Rattle.reader.proofs.ReadingOf.{refused_verdict}
+use Rattle.terms.proofs.Answers.{refused_answer}
 use Rattle.prepare.proofs.Prepares.{train_given, fields_given, prepared_accepted, prepared_refused}
 use Rattle.prepare.proofs.prepare_sheet.Goals as goal
 
@@ -15,21 +14,22 @@ zeros = record { departures = refl; driving = refl; delays = refl; passengers = 
 -- the lists hold numbers in range
 pub fill_timing-requires : goal.fill_timing-requires
 fill_timing-requires c =
-    (c.requires.0, train_given _ _ _ _ c.decode-answer.ensures zeros _ _ c.in-Accepted.is)
+    (c.requires.0, train_given _ _ _ _ c.decode.ensures zeros _ c.in_ok-head.was)
 
 pub sum_columns-requires : goal.sum_columns-requires
 sum_columns-requires c =
-    (fields_given _ _ _ _ c.decode-answer.ensures zeros _ _ c.in-Accepted.is, c.requires.1)
+    (fields_given _ _ _ _ c.decode.ensures zeros _ c.in_ok-head.was, c.requires.1)
 
 -- both lists are filled
-pub returns-in-Accepted : goal.returns-in-Accepted
-returns-in-Accepted c =
-    prepared_accepted _ _ _ _ c.decode-answer.ensures zeros _ _ c.in-Accepted.is _ _
+pub returns : goal.returns
+returns c =
+    prepared_accepted _ _ _ _ c.decode.ensures zeros _ c.in_ok-head.was _ _
     c.fill_timing.ensures c.sum_columns.ensures
 
 -- the sheet is refused
-pub returns-in_default : goal.returns-in_default
-returns-in_default c =
-    let answer = c.decode-answer.ensures.answer in
-    let refused = sym (refused_verdict (sheet_verdict _) _ _ (sym c.in_default.is ∙ answer)) in
-    rw c.in_default.is (prepared_refused _ _ _ _ _ refused)
+pub returns-in_err-head : goal.returns-in_err-head
+returns-in_err-head c =
+    let refused : c.from_residual.result ≡ Err c.in_err-head.field-0.0 = search rules in
+    rw refused
+    (prepared_refused _ _ _ _ _
+    (sym (refused_answer (sheet_verdict _) _ (sym c.in_err-head.was ∙ c.decode.ensures.answer))))
