@@ -1,15 +1,12 @@
 -- How large what is given and what is worked can be: lists that are given make a book in range, and so every worked
 -- cell is at most the limit.
 -- Assumes nothing.
-use mathlib.Core.List.{List}
-use mathlib.Core.Logic.{inl, inr}
-use Prim.Native.Nat.{ℕ, ◌≤◌}
-use native.Mathlib.Nat.{le_trans, le_of_eq}
-use native.Mathlib.Omega.{arith}
+use Rattle.std.proofs.Common.{List, inl, inr, ℕ, ◌≤◌, le_trans, le_of_eq, arith}
 use Rattle.std.proofs.lemmas.Bool.{cases_lt}
 use Rattle.line.specs.Ranges.{limit, RunningInRange, BookInRange}
 use Rattle.line.proofs.Bounds as bounds
 use Rattle.cells.specs.Place.{table_of, RowsWorked}
+use Rattle.cells.specs.declared.timing.Timing.{Timing}
 use Rattle.cells.specs.Timing.{running_in, TimingGiven}
 use Rattle.cells.specs.Sums.{boarded_in}
 use Rattle.cells.specs.Book.{book_in, BookGiven}
@@ -17,11 +14,11 @@ use Rattle.cells.specs.Limits.{LaterInRange, CellsInRange}
 use Rattle.cells.proofs.Places.{table_past}
 use Rattle.cells.proofs.Leavers.{aboard_le}
 
-pub running_in_range : (m : ℕ) (timing : List ℕ) → TimingGiven m timing → RunningInRange m (running_in timing)
+pub running_in_range : (m : ℕ) (timing : Timing) → TimingGiven m timing → RunningInRange m (running_in timing)
 running_in_range m timing given =
     record { trains = given.trains; arrive = λ i x a b. omega (arith, given.source i a b) }
 
-module _ (m : ℕ) (timing sums : List ℕ) (given : BookGiven m timing sums) where
+module _ (m : ℕ) (timing : Timing) (sums : List ℕ) (given : BookGiven m timing sums) where
   pub book_in_range : BookInRange (book_in m timing sums)
   unfolding boarded_in
   book_in_range =

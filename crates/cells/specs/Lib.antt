@@ -4,4 +4,5 @@ pub mod Sums
 pub mod Book
 pub mod Limits
 pub mod Costs
+pub mod Held
 pub mod Shown

@@ -1,11 +1,7 @@
 -- From a sheet taken apart to its times and sums: what an accepted sheet left in the four lists is enough to fill them,
 -- and they then hold the sheet's own numbers.
 -- Assumes nothing.
-use mathlib.Core.Path.{◌≡◌, sym, subst, ◌∙◌}
-use mathlib.Core.List.{List}
-use Prim.Native.Nat.{ℕ, ◌≤◌}
-use native.Mathlib.Nat.{le_trans, le_of_eq}
-use native.Mathlib.Omega.{arith}
+use Rattle.std.proofs.Common.{◌≡◌, sym, subst, ◌∙◌, List, ℕ, ◌≤◌, le_trans, le_of_eq, arith}
 use Rattle.lists.proofs.Choice.{below_yes}
 use Rattle.terms.specs.declared.Refusal.{Refusal}
 use Rattle.std.specs.Prelude.{Ok, Err}
@@ -25,6 +21,7 @@ use Rattle.terms.specs.declared.Head.{Head}
 use Rattle.terms.proofs.Answers.{answer_refused}
 use Rattle.reader.proofs.ReadingOf.{accepted_reading}
 use Rattle.reader.proofs.Decoded.{decoded_lengths, decoded_numbers}
+use Rattle.cells.specs.declared.timing.Timing.{Timing}
 use Rattle.prepare.specs.Prepared.{HoldsTimes, HoldsSums, Prepared}
 use Rattle.prepare.specs.Preparing.{TrainGiven, pair_in, FieldsGiven}
 use Rattle.prepare.proofs.Holding.{timing_of_same, sums_of_same}
@@ -79,7 +76,7 @@ module _ (s : List ℕ) (before after : Lists) (a : Reading) (decoded : Decoded 
   -- ---- what is filled
 
   -- times and sums of the lists are those of the sheet
-  pub prepared_accepted : (timing sums : List ℕ)
+  pub prepared_accepted : (timing : Timing) (sums : List ℕ)
       → HoldsTimes h.trains h.period (times_in after.departures after.driving after.delays) timing
       → HoldsSums h.trains (pair_in h.trains after.passengers) sums → Prepared (sheet_verdict s) s timing sums (Ok h)
   unfolding pair_in passengers_of_pair
@@ -91,7 +88,7 @@ module _ (s : List ℕ) (before after : Lists) (a : Reading) (decoded : Decoded 
       }
 
 -- where the answer refuses, nothing is asked of the lists
-pub prepared_refused : (checks : Verdict) (s timing sums : List ℕ) (r : Refusal) → Err r ≡ checks
+pub prepared_refused : (checks : Verdict) (s : List ℕ) (timing : Timing) (sums : List ℕ) (r : Refusal) → Err r ≡ checks
     → Prepared checks s timing sums (Err r)
 prepared_refused checks s timing sums r e =
     record {
@@ -101,7 +98,7 @@ prepared_refused checks s timing sums r e =
     }
 
 -- what was prepared after some checks was prepared after equal ones
-pub prepared_same : {v w : Verdict} {s timing sums : List ℕ} {r q : Reading} → v ≡ w → r ≡ q
+pub prepared_same : {v w : Verdict} {s : List ℕ} {timing : Timing} {sums : List ℕ} {r q : Reading} → v ≡ w → r ≡ q
     → Prepared v s timing sums r → Prepared w s timing sums q
 prepared_same {w = w} {s = s} {timing = timing} {sums = sums} {r = r} e a h =
     subst (Prepared w s timing sums) a (subst (λ (x : Verdict). Prepared x s timing sums r) e h)

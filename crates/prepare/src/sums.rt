@@ -2,10 +2,9 @@
 ghost use Rattle.std.specs.Prelude.{◌≡◌, ◌-◌, ◌≤◌, length};
 ghost use Rattle.sheet.specs.Pairs.{IsPair};
 ghost use Rattle.prepare.specs.Prepared.{HoldsSums};
-ghost use Rattle.cells.specs.Sums.{sums_count};
 ghost use Rattle.prepare.specs.Preparing.{pair_in, FieldsGiven};
 
-use cells::sums::place_of_sum;
+use cells::sums::{SUMS, place_of_sum};
 use sheet::format::field_of_pair;
 use terms::{Station, Train};
 
@@ -19,7 +18,7 @@ fn pair(passengers: &[u32], m: u32, from: Station, to: Station) -> u32
 
 // The sums of those who leave one train, beside those of the trains before it: from those who board
 // at the station that it leaves back to those who board at station 1 or later.
-fn sum_column(sums: &mut [u32], passengers: &[u32], m: u32, train: Train)
+fn sum_column(sums: &mut [u32; SUMS], passengers: &[u32], m: u32, train: Train)
     requires { FieldsGiven m passengers.now × (1 ≤ train.0) × (train.0 ≤ m)
         × HoldsSums (train.0 - 1) (pair_in m passengers.now) sums.old }
     ensures { HoldsSums train.0 (pair_in m passengers.now)
@@ -37,8 +36,8 @@ fn sum_column(sums: &mut [u32], passengers: &[u32], m: u32, train: Train)
 }
 
 // The sums of all trains.
-pub fn sum_columns(sums: &mut [u32], passengers: &[u32], m: u32)
-    requires { FieldsGiven m passengers.now × (length sums.old ≡ sums_count) }
+pub fn sum_columns(sums: &mut [u32; SUMS], passengers: &[u32], m: u32)
+    requires { FieldsGiven m passengers.now }
     ensures { HoldsSums m (pair_in m passengers.now) sums.new }
 {
     for i in 1..=m {

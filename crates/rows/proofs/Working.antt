@@ -2,13 +2,8 @@
 -- was taken, and every later row stands.
 --   WorkedTo B t before cells diagonal i   rows i + 1 to t are worked, all else is as it was before
 -- Assumes nothing.
-use mathlib.Core.Path.{◌≡◌, refl, ap, sym, ◌∙◌}
-use mathlib.Core.List.{List, ◌++◌}
-use mathlib.Core.Logic.{inl, inr}
-use Prim.Native.Nat.{ℕ, ◌+◌, ◌-◌, ◌*◌, ◌≤◌, ◌<◌}
-use native.Mathlib.Nat.{le_refl, le_of_eq, eq-or-lt_of_le}
-use native.Mathlib.Omega.{arith}
-use lib.ListN.{length, get_or, set, take, drop, replicate, length-set, get_or-eq_default}
+use Rattle.std.proofs.Common.{◌≡◌, refl, ap, sym, ◌∙◌, List, ◌++◌, inl, inr, ℕ, ◌+◌, ◌-◌, ◌*◌, ◌≤◌, ◌<◌, le_refl, le_of_eq, eq-or-lt_of_le, arith, length, get_or, set, take, drop, replicate, length-set}
+use Rattle.std.proofs.Math.ListN.{get_or-eq_default}
 use Rattle.lists.specs.Run.{nth}
 use Rattle.std.proofs.lemmas.Bool.{cases_lt, cases_eq}
 use Rattle.lists.proofs.Splice.{splice, length_splice, splice_before, splice_in, splice_after}
@@ -20,6 +15,8 @@ use Rattle.line.proofs.Along.{excess_on_start}
 use Rattle.line.proofs.Alike.{cell_by_alike, books_alike_refl}
 use Rattle.cells.specs.Place.{cell_count, place, table_of, InRow, InUse, RowsWorked}
 use Rattle.cells.specs.Book.{book_in, BookGiven}
+use Rattle.cells.specs.declared.timing.Timing.{Timing}
+use Rattle.cells.specs.declared.costs.Costs.{Costs}
 use Rattle.cells.specs.Costs.{CostsAlong}
 use Rattle.cells.proofs.Places.{place_row, place_after, row_fits, table_in, table_past}
 use Rattle.cells.proofs.Along.{keep_le, go_le}
@@ -65,9 +62,8 @@ module _ (m k : ℕ) (cells row : List ℕ) (long : length cells ≡ cell_count)
 
 -- ---- one row
 
-module _ (m k : ℕ) (timing sums costs diagonal part cells row : List ℕ) (long : length cells ≡ cell_count)
-    (few : m ≤ 64)
-    (pos : 1 ≤ k) (last : k ≤ m) (size : length row ≡ m + 1 - k) (A : CostsAlong (book_in m timing sums) k costs)
+module _ (m k : ℕ) (timing : Timing) (sums : List ℕ) (costs : Costs) (diagonal part cells row : List ℕ)
+    (long : length cells ≡ cell_count) (few : m ≤ 64) (pos : 1 ≤ k) (last : k ≤ m) (size : length row ≡ m + 1 - k) (A : CostsAlong (book_in m timing sums) k costs)
     (F : RowFilled k costs diagonal part row) where
   abbrev book : Book
   book = book_in m timing sums
@@ -130,14 +126,14 @@ pub record WorkedTo (B : Book) (t : ℕ) (before cells diagonal : List ℕ) (i :
       → table_of B.trains cells k l ≡ table_of B.trains before k l
   pub others : (p : ℕ) → ¬ (InUse B.trains t p) → get_or cells p 0 ≡ get_or before p 0
 
-pub worked_start : (B : Book) (t : ℕ) (cells diagonal : List ℕ)
+pub worked_start : (B : Book) (t : ℕ) (cells diagonal : List ℕ) → length diagonal ≡ 64
     → Diagonal B.trains t cells (replicate 64 0) diagonal
     → ((l : ℕ) → t < l → l ≤ B.trains → table_of B.trains cells l l ≤ limit) → WorkedTo B t cells cells diagonal t
-worked_start B t cells diagonal D later =
+worked_start B t cells diagonal long D later =
     record {
       most = le_refl t;
       long = refl;
-      long_diagonal = D.long;
+      long_diagonal = long;
       ahead = D.held;
       small = λ l a b. elim (cases_lt t l) [
         | inl u ↦ omega (arith, D.held l u b, later l u b)
@@ -225,15 +221,13 @@ worked_end B t before cells diagonal i W e =
 
 -- ---- a row can be added up
 
-pub row_room : (m k : ℕ) (timing sums costs diagonal : List ℕ) → BookGiven m timing sums → 1 ≤ k → k ≤ m
-    → CostsAlong (book_in m timing sums) k costs → length diagonal ≡ 64
+pub row_room : (m k : ℕ) (timing : Timing) (sums : List ℕ) (costs : Costs) (diagonal : List ℕ)
+    → BookGiven m timing sums → 1 ≤ k → k ≤ m → CostsAlong (book_in m timing sums) k costs
     → ((l : ℕ) → 1 ≤ l → l ≤ m → nth diagonal l ≤ ceiling) → RowRoom k (m + 1 - k) costs diagonal
-row_room m k timing sums costs diagonal given pos last A long small =
+row_room m k timing sums costs diagonal given pos last A small =
     record {
       first = pos;
       last = omega (arith, given.times.trains);
-      long_costs = A.long;
-      long_diagonal = long;
       small = λ l a b. (
         keep_le m k timing sums costs given pos A l a (omega arith),
         go_le m k timing sums costs given pos A l a (omega arith),

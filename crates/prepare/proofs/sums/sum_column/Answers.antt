@@ -4,7 +4,7 @@ use Rattle.prepare.proofs.sums.sum_column.Goals as goal
 
 -- the train boards last at the station that it leaves
 pub loop-k-init : goal.loop-k-init
-loop-k-init c = column_start _ _ _ _ c.leaves-last.ensures c.requires.3
+loop-k-init c = column_start _ _ _ _ c.leaves-last.ensures (omega arith) c.requires.3
 
 -- the sum of station k is that of the next station and one pair more
 pub loop-k-preserved : goal.loop-k-preserved
