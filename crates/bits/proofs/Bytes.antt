@@ -4,7 +4,6 @@ use Rattle.std.proofs.Common.{◌≡◌, sym, subst, ◌∙◌, Bool, true, fals
 use Rattle.std.proofs.Common.{◌+◌, ◌-◌, ◌*◌, ◌/◌, ◌%◌, ◌^◌, ◌≤◌, ◌<◌, mod-lt, div-one}
 use Rattle.std.proofs.Common.{zero-add, arith, T, ltb, ltb→lt, lit<, lit≤, length, get_or, shr-shr}
 use Rattle.std.proofs.Common.{ext_get_or, lt_of_le_of_lt, inl, inr, w8, bit_and, bit_or}
-use native.Mathlib.Nat.{div-eq_of_lt}
 use lib.Pow.{are_bytes}
 use Rattle.std.proofs.lemmas.Nat.{and_le_l, or_of_8}
 use Rattle.std.proofs.lemmas.Nat.Bits.{bit_at_clear_same, bit_at_clear_other, bit_at_set_same, bit_at_set_other, bit_at_above}
@@ -56,7 +55,7 @@ byte_put x k b byte within bit = elim (cases_eq b 0) [
 
 byte_part : (s : List ℕ) (q k : ℕ) → get_or s q 0 < 256 → k ≤ 8 → field_of s (8 * q) k ≡ get_or s q 0 / 2 ^ (8 - k)
 unfolding field_of bit_at
-byte_part s q zero h l = sym (div-eq_of_lt h)
+byte_part s q zero h l = omega arith
 byte_part s q (suc k) h l =
     let d : ℕ = 7 - k in
     let a : (8 * q + k) / 8 ≡ q = omega arith in

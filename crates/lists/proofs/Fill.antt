@@ -7,7 +7,7 @@ use Rattle.std.proofs.lemmas.Bool.{cases_lt}
 use Rattle.std.proofs.lemmas.List.{length-replicate, get_or-replicate, get_or_past}
 use Rattle.lists.specs.Run.{padded}
 use Rattle.lists.specs.Filled.{Filled}
-use Rattle.lists.proofs.Run.{padded_ext, padded_past}
+use Rattle.lists.proofs.Run.{padded_ext}
 
 module _ {A : Type 0} (d : A) (f : ℕ → A) where
   pub filled_none : (xs : List A) → Filled d f 0 xs xs

@@ -1,7 +1,7 @@
 -- A part of a list put back: the length, and what stands before, in and after the part.
 --   splice xs a ys   xs with ys in the place of as many elements from place a on
 -- Assumes nothing.
-use Rattle.std.proofs.Common.{◌≡◌, List, ◌++◌, ℕ, ◌+◌, ◌-◌, ◌≤◌, ◌<◌, arith, rules, length, get_or, take, drop}
+use Rattle.std.proofs.Common.{◌≡◌, List, ◌++◌, ℕ, ◌+◌, ◌≤◌, ◌<◌, rules, length, get_or, take, drop}
 use Rattle.std.proofs.lemmas.List.{places}
 
 abbrev pub splice : {A : Type 0} → List A → ℕ → List A → List A

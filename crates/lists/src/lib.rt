@@ -25,16 +25,3 @@ pub fn fill_u32(list: &mut [u32], value: u32)
         k += 1;
     }
 }
-
-// `list` becomes `from`, which is as long.
-#[tactic(auto, using(crate::proofs::Fill::filled_all))]
-pub fn copy_u32(list: &mut [u32], from: &[u32])
-    requires { length from.now ≡ length list.old }
-    ensures { list.new ≡ from.now }
-{
-    let mut k = 0;
-    while k < list.len() {
-        list[k] = from[k];
-        k += 1;
-    }
-}

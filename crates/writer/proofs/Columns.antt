@@ -1,13 +1,7 @@
 -- Laws of a column that is put place by place.
 -- Assumes nothing.
-use mathlib.Core.Path.{◌≡◌, refl, subst, ◌∙◌}
-use mathlib.Core.List.{List}
-use mathlib.Core.Logic.{inl, ⊎_elim}
-use Prim.Native.Nat.{ℕ, ◌+◌, ◌*◌, ◌≤◌, ◌<◌}
-use native.Mathlib.Nat.{not-suc-le-zero, mul-le-mul_left, mul-suc}
-use native.Mathlib.Omega.{arith}
-use lib.ListN.{get_or}
-use Rattle.std.proofs.lemmas.Bool.{cases_lt}
+use Rattle.std.proofs.Common.{below_more, ◌≡◌, refl, ◌∙◌, List, inl, ℕ, ◌+◌, ◌*◌, ◌≤◌, ◌<◌, not-suc-le-zero}
+use Rattle.std.proofs.Common.{mul-le-mul_left, mul-suc, arith, get_or}
 use Rattle.bits.specs.Field.{Put}
 use Rattle.bits.proofs.Puts.{put_apart}
 use Rattle.sheet.specs.declared.format.Column.{Column}
@@ -28,12 +22,7 @@ unfolding entry
 column_next {s} {t} {u} {c} {n} {v} {l} g spaced same h =
     record {
       long = h.long ∙ g.long;
-      holds = λ k b.
-          ⊎_elim
-          (λ (a : k < n). put_apart h _ _ (inl (places_apart c k n spaced a)) ∙ g.holds k a)
-          (λ (a : n ≤ k).
-          let e : n ≡ k = omega arith in
-          subst (λ (j : ℕ). entry u c j ≡ get_or l j 0) e (h.holds ∙ same))
-          (cases_lt k n);
+      holds = below_more _ _ (λ k a. put_apart h _ _ (inl (places_apart c k n spaced a)) ∙ g.holds k a)
+          (h.holds ∙ same);
       others = λ a w o. put_apart h a w (o n (omega arith)) ∙ g.others a w (λ k b. o k (omega arith));
     }

@@ -1,6 +1,5 @@
-use Rattle.std.proofs.Common.{◌≡◌, ◌∙◌, refl, sym, ap, List, ℕ, ◌<◌, ◌≤◌, ◌+◌, ◌-◌, ◌*◌, ◌/◌, ◌%◌, ◌^◌, arith}
-use Rattle.std.proofs.Common.{div-one, shr-shr}
-use native.Mathlib.Nat.{mod-one}
+use Rattle.std.proofs.Common.{◌≡◌, ◌∙◌, refl, ap, List, ℕ, ◌<◌, ◌≤◌, ◌+◌, ◌-◌, ◌*◌, ◌/◌, ◌%◌, ◌^◌, arith}
+use Rattle.std.proofs.Common.{shr-shr}
 use Rattle.std.proofs.lemmas.Nat.{mod-pow-add}
 use Rattle.bits.specs.Field.{Put}
 use Rattle.bits.proofs.Puts.{put_none, put_more}
@@ -10,7 +9,8 @@ use Rattle.bits.proofs.put.Goals as goal
 putting_none : (s : List ℕ) (at w v : ℕ) → Putting s at w v w v s
 putting_none s at w v =
     let e : w - w ≡ 0 = omega arith in
-    record { holds = rw e (sym (div-one v)); done = rw (e, mod-one v) (put_none s (at + w)) }
+    let none : v % 1 ≡ 0 = omega arith in
+    record { holds = rw e (omega arith); done = rw (e, none) (put_none s (at + w)) }
 
 putting_next : {s t u : List ℕ} {at w v left rest : ℕ} → Putting s at w v left rest t → 0 < left → left ≤ w
     → Put t (at + (left - 1)) 1 (rest % 2) u → Putting s at w v (left - 1) (rest / 2) u

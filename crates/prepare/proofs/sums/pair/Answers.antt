@@ -1,7 +1,5 @@
 -- `sums::pair` meets its contract: the pair has a field.
-use mathlib.Core.Path.{ap}
-use Prim.Native.Nat.{ℕ, ◌-◌}
-use lib.ListN.{get_or}
+use Rattle.std.proofs.Common.{ap, ℕ, ◌-◌, get_or}
 use Rattle.prepare.specs.Preparing.{pair_in}
 use Rattle.prepare.proofs.sums.pair.Goals as goal
 
