@@ -2,7 +2,7 @@
 -- station. They are prepared once from a sheet's numbers; everything that follows a delay or counts a missed connection
 -- reads them. Document 01, "The line and its numbers". Trains and stations count from 1.
 --   no_times                the times that are 0 for each of 64 trains
---   times_in timing i       the times of train i, which leaves station i
+--   train_times timing i       the times of train i, which leaves station i
 --   slack_in timing s, source_in timing i, period_in timing s     one of the three
 --   with_slack timing s v, with_source timing i v, with_period timing s v     the times with v in its place
 --   running_in timing       how the trains run
@@ -10,35 +10,35 @@
 -- Assumes nothing.
 use Rattle.std.specs.Prelude.{ℕ, ◌+◌, ◌-◌, ◌≤◌, get_or, set, replicate}
 use Rattle.line.specs.Line.{Running}
-use Rattle.cells.specs.declared.timing.Times.{Times}
+use Rattle.cells.specs.declared.timing.TrainTimes.{TrainTimes}
 use Rattle.cells.specs.declared.timing.Timing.{Timing}
 
-abbrev pub zero_times : Times
+abbrev pub zero_times : TrainTimes
 zero_times = record { slack = 0; source = 0; period = 0 }
 
 abbrev pub no_times : Timing
 no_times = record { trains = replicate 64 zero_times }
 
-abbrev pub times_in : Timing → ℕ → Times
-times_in timing i = get_or timing.trains (i - 1) zero_times
+abbrev pub train_times : Timing → ℕ → TrainTimes
+train_times timing i = get_or timing.trains (i - 1) zero_times
 
 unfoldable pub slack_in : Timing → ℕ → ℕ
-slack_in timing s = (times_in timing s).slack
+slack_in timing s = (train_times timing s).slack
 
 unfoldable pub source_in : Timing → ℕ → ℕ
-source_in timing i = (times_in timing i).source
+source_in timing i = (train_times timing i).source
 
 unfoldable pub period_in : Timing → ℕ → ℕ
-period_in timing s = (times_in timing s).period
+period_in timing s = (train_times timing s).period
 
 abbrev pub with_slack : Timing → ℕ → ℕ → Timing
-with_slack timing s v = record { trains = set timing.trains (s - 1) (record (times_in timing s) { slack = v }) }
+with_slack timing s v = record { trains = set timing.trains (s - 1) (record (train_times timing s) { slack = v }) }
 
 abbrev pub with_source : Timing → ℕ → ℕ → Timing
-with_source timing i v = record { trains = set timing.trains (i - 1) (record (times_in timing i) { source = v }) }
+with_source timing i v = record { trains = set timing.trains (i - 1) (record (train_times timing i) { source = v }) }
 
 abbrev pub with_period : Timing → ℕ → ℕ → Timing
-with_period timing s v = record { trains = set timing.trains (s - 1) (record (times_in timing s) { period = v }) }
+with_period timing s v = record { trains = set timing.trains (s - 1) (record (train_times timing s) { period = v }) }
 
 -- a train arrives with its departure delay and its source delay
 abbrev pub running_in : Timing → Running

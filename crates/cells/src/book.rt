@@ -23,6 +23,7 @@ impl<'a> Book<'a> {
     ghost use Rattle.cells.specs.Costs.{CostsAlong};
     ghost use Rattle.cells.specs.Held.{book_held};
 
+    // Those who board are counted from the sums.
     pub fn new(m: u32, timing: &'a Timing, sums: &'a [u32; SUMS]) -> Book<'a>
         requires { BookGiven m timing.now sums.now }
         ensures m { result.m ≡ m }

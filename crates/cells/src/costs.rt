@@ -19,6 +19,7 @@ pub struct Costs {
 }
 
 impl Costs {
+    // 0 at every station.
     pub fn zeros() -> Costs
         ensures { result ≡ no_costs }
     {

@@ -9,23 +9,24 @@ use terms::{Station, Train};
 // Of one train: the slack at the station that it leaves, its source delay, and the minutes that
 // each passenger counts who misses it there.
 #[derive(Clone, Copy, Default)]
-pub struct Times {
-    pub slack: u32,
-    pub source: u32,
-    pub period: u32,
+struct TrainTimes {
+    slack: u32,
+    source: u32,
+    period: u32,
 }
 
 #[derive(Drop)]
 pub struct Timing {
-    trains: [Times; 64],
+    trains: [TrainTimes; 64],
 }
 
 impl Timing {
+    // 0 for every train.
     pub fn zeros() -> Timing
         ensures { result ≡ no_times }
     {
         Timing {
-            trains: [Times::default(); 64],
+            trains: [TrainTimes::default(); 64],
         }
     }
 
@@ -57,7 +58,7 @@ impl Timing {
     }
 
     // The slack at a station becomes so many minutes.
-    #[tactic(auto, using(crate::proofs::Times::slack_set))]
+    #[tactic(auto, unfolding(crate::specs::Timing::slack_in))]
     pub fn set_slack(&mut self, station: Station, minutes: u32)
         requires { (1 ≤ station.0) × (station.0 ≤ 64) }
         ensures whole { self.new ≡ with_slack self.old station.0 minutes }
@@ -67,7 +68,7 @@ impl Timing {
     }
 
     // The source delay of a train becomes so many minutes.
-    #[tactic(auto, using(crate::proofs::Times::source_set))]
+    #[tactic(auto, unfolding(crate::specs::Timing::source_in))]
     pub fn set_source(&mut self, train: Train, minutes: u32)
         requires { (1 ≤ train.0) × (train.0 ≤ 64) }
         ensures whole { self.new ≡ with_source self.old train.0 minutes }
@@ -77,7 +78,7 @@ impl Timing {
     }
 
     // The period at a station becomes so many minutes.
-    #[tactic(auto, using(crate::proofs::Times::period_set))]
+    #[tactic(auto, unfolding(crate::specs::Timing::period_in))]
     pub fn set_period(&mut self, station: Station, minutes: u32)
         requires { (1 ≤ station.0) × (station.0 ≤ 64) }
         ensures whole { self.new ≡ with_period self.old station.0 minutes }
