@@ -66,9 +66,7 @@ fn main(rt: HostRuntime) -> io::Result<()> {
     let answer = plan(sheet, &mut cells, &mut decisions, &mut delays);
     let mut out = rt.stdout();
     match answer {
-        Err(refusal) => {
-            writeln!(out, "refused {} {}", refusal.number(), refusal.place())
-        }
+        Err(refusal) => { writeln!(out, "refused {} {}", refusal.number(), refusal.place()) }
         Ok(total) => {
             writeln!(out, "total {total}")?;
             let m = trains(sheet);

@@ -59,7 +59,12 @@ fn read_columns(sheet: &[u8], m: usize, columns: &mut Columns)
     read_column(&mut columns.departures, sheet, Column::departures(), m);
     read_column(&mut columns.driving, sheet, Column::driving(), m);
     read_column(&mut columns.delays, sheet, Column::delays(), m);
-    read_column(&mut columns.passengers, sheet, Column::passengers(m), pairs_of(m));
+    read_column(
+        &mut columns.passengers,
+        sheet,
+        Column::passengers(m),
+        pairs_of(m),
+    );
 }
 
 // The filling bits.

@@ -97,7 +97,13 @@ fn check_train(train: Train, given: Lists) -> Verdict
     let k = train.index();
     let departure = u64::from(given.departures[k]);
     let earliest = earliest(train, given.departures, given.driving);
-    check_times(train, departure, given.driving[k], given.delays[k], earliest)
+    check_times(
+        train,
+        departure,
+        given.driving[k],
+        given.delays[k],
+        earliest,
+    )
 }
 
 // Trains 1 to `m`, one after the other.
