@@ -10,6 +10,7 @@ use terms::Train;
 
 // The slack at the station that a train leaves: its departure less that of its feeder less the
 // feeder's driving time. Train 1 has no feeder; its 0 swallows no delay.
+#[tactic(auto, using(lists::proofs::Held::nth_index))]
 fn slack(train: Train, departures: &[u32], driving: &[u32]) -> u32
     requires { SlackGiven train.0 departures.now driving.now }
     ensures { 2 ≤ train.0 → result ≡ nth departures.now train.0
@@ -26,6 +27,7 @@ fn slack(train: Train, departures: &[u32], driving: &[u32]) -> u32
 
 // The times of a train beside those of the trains before it: slack and period at the station that
 // it leaves, and its source delay.
+#[tactic(auto, using(crate::proofs::Holding::times_next, lists::proofs::Held::nth_index))]
 fn set_times(
     timing: &mut Timing,
     train: Train,
@@ -48,6 +50,7 @@ fn set_times(
 }
 
 // The times of all trains.
+#[tactic(auto, using(crate::proofs::Holding::times_none, crate::proofs::Holding::times_fewer))]
 pub fn fill_timing(
     timing: &mut Timing,
     m: u32,
@@ -61,9 +64,7 @@ pub fn fill_timing(
         (times_in departures.now driving.now delays.now)
         timing.new }
 {
-    let mut i = 1;
-    while i <= m {
+    for i in 1..=m {
         set_times(timing, Train(i), period, departures, driving, delays);
-        i += 1;
     }
 }
