@@ -1,4 +1,5 @@
--- The columns before stand, and in this one the sums of the stations from k + 1 on.
+-- `sums::sum_column` meets its contract. Invariant: the columns before stand, and in this one the sums of the stations
+-- from k + 1 on.
 use Rattle.prepare.specs.Preparing.{pair_in}
 use Rattle.prepare.proofs.Summing.{ColumnTo}
 use Rattle.prepare.proofs.sums.sum_column.Given as goal

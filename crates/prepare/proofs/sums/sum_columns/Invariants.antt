@@ -1,4 +1,4 @@
--- The columns of the trains before i are summed.
+-- `sums::sum_columns` meets its contract. Invariant: the columns before i are summed.
 use Rattle.std.proofs.Common.{◌-◌}
 use Rattle.prepare.specs.Prepared.{HoldsSums}
 use Rattle.prepare.specs.Preparing.{pair_in}
