@@ -1,3 +1,4 @@
+-- The sums of the column, from the last station that is boarded at to the first.
 use Rattle.std.proofs.Common.{arith}
 use Rattle.prepare.proofs.Summing.{column_start, column_next}
 use Rattle.prepare.proofs.sums.sum_column.Goals as goal
