@@ -1,10 +1,9 @@
 -- A planned sheet is accepted, so it has a head: its first field lies within it.
 -- Assumes nothing.
-use Rattle.std.proofs.Common.{ℕ, arith, ◌≡◌, sym, ◌∙◌, List}
+use Rattle.std.proofs.Common.{ℕ, arith, ◌≡◌, sym, ◌∙◌, List, Ok}
 use Rattle.std.proofs.Math.Dec.{lit≤}
 use Rattle.bits.specs.Field.{Within}
 use Rattle.terms.proofs.Answers.{accepted_answer}
-use Rattle.std.specs.Prelude.{Ok}
 use Rattle.terms.specs.Answer.{Answer}
 use Rattle.sheet.specs.Format.{trains_of}
 use Rattle.sheet.specs.Accepted.{AcceptedSheet}

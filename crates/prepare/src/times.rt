@@ -11,6 +11,7 @@ use terms::{Head, Train};
 
 // The slack at the station that a train leaves: its departure less that of its feeder less the
 // feeder's driving time. Train 1 has no feeder; its 0 swallows no delay.
+#[tactic(auto, using(lists::proofs::Held::nth_index))]
 fn slack(train: Train, departures: &[u32], driving: &[u32]) -> u32
     requires { SlackGiven train.0 departures.now driving.now }
     ensures { 2 ≤ train.0 → result ≡ nth departures.now train.0
@@ -27,6 +28,7 @@ fn slack(train: Train, departures: &[u32], driving: &[u32]) -> u32
 
 // The times of a train beside those of the trains before it: slack and period at the station that
 // it leaves, and its source delay.
+#[tactic(auto, using(crate::proofs::Holding::times_next, lists::proofs::Held::nth_index))]
 fn set_times(timing: &mut Timing, train: Train, period: u32, numbers: Lists)
     requires { TrainGiven train.0 numbers.departures.now numbers.driving.now numbers.delays.now
         × HoldsTimes (train.0 - 1) period (times_lent numbers) timing.old }

@@ -1,4 +1,4 @@
--- The times of the trains before i stand.
+-- `times::fill_timing` meets its contract. Invariant: the times of the trains before i stand.
 use Rattle.std.proofs.Common.{◌-◌}
 use Rattle.sheet.specs.Held.{times_lent}
 use Rattle.prepare.specs.Prepared.{HoldsTimes}
