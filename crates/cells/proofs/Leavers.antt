@@ -1,9 +1,6 @@
 -- Laws of the sums: those who board at station k or later and leave train l, or it or a later one, and those aboard.
 -- Assumes nothing.
-use mathlib.Core.Path.{◌≡◌, ◌∙◌}
-use mathlib.Core.List.{List}
-use Prim.Native.Nat.{ℕ, ◌+◌, ◌-◌, ◌≤◌, ◌<◌}
-use native.Mathlib.Omega.{arith}
+use Rattle.std.proofs.Common.{◌≡◌, ◌∙◌, List, ℕ, ◌+◌, ◌-◌, ◌≤◌, ◌<◌, arith}
 use Rattle.line.specs.Ranges.{everyone}
 use Rattle.line.proofs.Sums.{over, sum_over, over_none, over_first, over_split, over_same, over_add}
 use Rattle.cells.specs.Sums.{leaving_in, boarded_in, aboard_in, SumsGiven}

@@ -1,12 +1,6 @@
 -- Rows worked: working leaves one list of cells, and books alike leave the same.
 -- Assumes nothing.
-use mathlib.Core.Path.{◌≡◌, refl, ap, sym, subst, ◌∙◌}
-use mathlib.Core.List.{List}
-use mathlib.Core.Logic.{inl, inr}
-use Prim.Native.Nat.{ℕ, ◌≤◌}
-use native.Mathlib.Omega.{arith}
-use lib.ListN.{get_or}
-use lib.Seq.{ext_get_or}
+use Rattle.std.proofs.Common.{◌≡◌, refl, ap, sym, subst, ◌∙◌, List, inl, inr, ℕ, ◌≤◌, arith, get_or, ext_get_or}
 use Rattle.line.specs.Cells.{Book, Worked}
 use Rattle.line.specs.Alike.{BooksAlike}
 use Rattle.line.proofs.Tables.{worked_for_alike, worked_one}

@@ -1,37 +1,45 @@
--- What the two choices cost along the run that begins with train k, but for the cells that they rest on: one list with
--- 64 places for the excess at each station, 64 for what keep costs, 64 for what go costs. Rows and walk both read it.
--- Document 01, "The working cells". Stations count from 1.
---   costs_count              how many places the list has
---   excess_in costs l, keep_in costs l, go_in costs l     what stands there for station l
---   with_costs costs l x y z    the list with x, y and z stored there
---   CostsAt B k l costs         the list holds them at station l for the run from k of the book B
---   CostsAlong B k costs        and at every station from k on
+-- What the two choices cost along the run that begins with train k, but for the cells that they rest on: by station the
+-- excess, what keep costs and what go costs. Rows and walk both read it. Document 01, "The working cells". Stations
+-- count from 1.
+--   no_costs                     the costs that are 0 at each of 64 stations
+--   cost_in costs l              the three of station l
+--   excess_in costs l, keep_in costs l, go_in costs l     one of them
+--   with_costs costs l cost      the costs with these three stored there
+--   CostsAt B k l costs          they are those of station l on the run from k of the book B
+--   CostsAlong B k costs         and so at every station from k on
 -- Assumes nothing.
-use Rattle.std.specs.Prelude.{ℕ, ◌+◌, ◌-◌, ◌*◌, ◌≤◌, ◌≡◌, List, length, get_or, set}
+use Rattle.std.specs.Prelude.{ℕ, ◌-◌, ◌*◌, ◌≤◌, ◌≡◌, get_or, set, replicate}
 use Rattle.line.specs.Cells.{Book, excess_on, arrival_on}
+use Rattle.cells.specs.declared.costs.Cost.{Cost}
+use Rattle.cells.specs.declared.costs.Costs.{Costs}
 
-abbrev pub costs_count : ℕ
-costs_count = 192
+abbrev pub zero_cost : Cost
+zero_cost = record { excess = 0; keep = 0; go = 0 }
 
-unfoldable pub excess_in : List ℕ → ℕ → ℕ
-excess_in costs l = get_or costs (l - 1) 0
+abbrev pub no_costs : Costs
+no_costs = record { stations = replicate 64 zero_cost }
 
-unfoldable pub keep_in : List ℕ → ℕ → ℕ
-keep_in costs l = get_or costs (64 + (l - 1)) 0
+abbrev pub cost_in : Costs → ℕ → Cost
+cost_in costs l = get_or costs.stations (l - 1) zero_cost
 
-unfoldable pub go_in : List ℕ → ℕ → ℕ
-go_in costs l = get_or costs (128 + (l - 1)) 0
+unfoldable pub excess_in : Costs → ℕ → ℕ
+excess_in costs l = (cost_in costs l).excess
 
-abbrev pub with_costs : List ℕ → ℕ → ℕ → ℕ → ℕ → List ℕ
-with_costs costs l excess keep go = set (set (set costs (l - 1) excess) (64 + (l - 1)) keep) (128 + (l - 1)) go
+unfoldable pub keep_in : Costs → ℕ → ℕ
+keep_in costs l = (cost_in costs l).keep
+
+unfoldable pub go_in : Costs → ℕ → ℕ
+go_in costs l = (cost_in costs l).go
+
+abbrev pub with_costs : Costs → ℕ → Cost → Costs
+with_costs costs l cost = record { stations = set costs.stations (l - 1) cost }
 
 -- at station l: the excess; those who leave train l by its arrival delay; those aboard by the period, and nobody is
 -- aboard where the run begins
-pub record CostsAt (B : Book) (k l : ℕ) (costs : List ℕ) : Type 0 where
+pub record CostsAt (B : Book) (k l : ℕ) (costs : Costs) : Type 0 where
   pub excess : excess_in costs l ≡ excess_on B.running k l
   pub keep : keep_in costs l ≡ B.leaving k l * arrival_on B.running k l
   pub go : go_in costs l ≡ B.period l * B.aboard k l
 
-pub record CostsAlong (B : Book) (k : ℕ) (costs : List ℕ) : Type 0 where
-  pub long : length costs ≡ costs_count
+pub record CostsAlong (B : Book) (k : ℕ) (costs : Costs) : Type 0 where
   pub each : (l : ℕ) → k ≤ l → l ≤ B.trains → CostsAt B k l costs

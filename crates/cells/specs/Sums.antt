@@ -5,10 +5,10 @@
 --   leaving_in sums k l         those who board at station k or later and leave train l
 --   boarded_in m sums k l       those who board at station k or later and leave train l or a later one
 --   aboard_in m sums k l        those who board at stations k to l - 1 and leave after station l
---   SumsGiven m sums            the list has its length, and its numbers are in range for m trains
+--   SumsGiven m sums            its numbers are in range for m trains
 --   Boarders m sums boarding    by station l, those who board at l or later
 -- Assumes nothing.
-use Rattle.std.specs.Prelude.{ℕ, ◌+◌, ◌-◌, ◌*◌, ◌≤◌, ◌≡◌, List, length, get_or}
+use Rattle.std.specs.Prelude.{ℕ, ◌+◌, ◌-◌, ◌*◌, ◌≤◌, ◌≡◌, List, get_or}
 use Rattle.lists.specs.Run.{nth}
 use Rattle.line.specs.Sum.{sum◌from◌to◌}
 use Rattle.line.specs.Ranges.{everyone}
@@ -32,11 +32,9 @@ aboard_in m sums k l = sum (λ t. leaving_in sums k t - leaving_in sums l t) fro
 
 pub record SumsGiven (m : ℕ) (sums : List ℕ) : Type 0 where
   pub trains : m ≤ 64
-  pub long : length sums ≡ sums_count
   pub most : (k : ℕ) → 1 ≤ k → k ≤ m → boarded_in m sums k k ≤ everyone
   -- of those who leave train t no more board at l or later than at k or later
   pub falls : (k l t : ℕ) → 1 ≤ k → k ≤ l → l ≤ t → t ≤ m → leaving_in sums l t ≤ leaving_in sums k t
 
 pub record Boarders (m : ℕ) (sums boarding : List ℕ) : Type 0 where
-  pub long : length boarding ≡ 64
   pub held : (l : ℕ) → 1 ≤ l → l ≤ m → nth boarding l ≡ boarded_in m sums l l

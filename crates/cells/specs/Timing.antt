@@ -1,43 +1,51 @@
--- The times of a line as one list: 64 places for the slack at each station, 64 for the source delay of each train, 64
--- for the period at each station. It is prepared once from a sheet's numbers; everything that follows a delay or counts
--- a missed connection reads it. Document 01, "The line and its numbers". Trains and stations count from 1.
---   timing_count            how many places the list has
---   place_of_slack s, place_of_source i, place_of_period s     where they stand in the list, counted from 0
---   slack_in timing s, source_in timing i, period_in timing s     what stands there
+-- The times of a line, by train: the slack at the station that it leaves, its source delay, and the period at that
+-- station. They are prepared once from a sheet's numbers; everything that follows a delay or counts a missed connection
+-- reads them. Document 01, "The line and its numbers". Trains and stations count from 1.
+--   no_times                the times that are 0 for each of 64 trains
+--   train_times timing i       the times of train i, which leaves station i
+--   slack_in timing s, source_in timing i, period_in timing s     one of the three
+--   with_slack timing s v, with_source timing i v, with_period timing s v     the times with v in its place
 --   running_in timing       how the trains run
---   TimingGiven m timing    the list has its length, and its numbers are in range for m trains
+--   TimingGiven m timing    the numbers are in range for m trains
 -- Assumes nothing.
-use Rattle.std.specs.Prelude.{ℕ, ◌+◌, ◌-◌, ◌≤◌, ◌≡◌, List, length, get_or}
+use Rattle.std.specs.Prelude.{ℕ, ◌+◌, ◌-◌, ◌≤◌, get_or, set, replicate}
 use Rattle.line.specs.Line.{Running}
+use Rattle.cells.specs.declared.timing.TrainTimes.{TrainTimes}
+use Rattle.cells.specs.declared.timing.Timing.{Timing}
 
-abbrev pub timing_count : ℕ
-timing_count = 192
+abbrev pub zero_times : TrainTimes
+zero_times = record { slack = 0; source = 0; period = 0 }
 
-abbrev pub place_of_slack : ℕ → ℕ
-place_of_slack s = s - 1
+abbrev pub no_times : Timing
+no_times = record { trains = replicate 64 zero_times }
 
-abbrev pub place_of_source : ℕ → ℕ
-place_of_source i = 64 + (i - 1)
+abbrev pub train_times : Timing → ℕ → TrainTimes
+train_times timing i = get_or timing.trains (i - 1) zero_times
 
-abbrev pub place_of_period : ℕ → ℕ
-place_of_period s = 128 + (s - 1)
+unfoldable pub slack_in : Timing → ℕ → ℕ
+slack_in timing s = (train_times timing s).slack
 
-unfoldable pub slack_in : List ℕ → ℕ → ℕ
-slack_in timing s = get_or timing (place_of_slack s) 0
+unfoldable pub source_in : Timing → ℕ → ℕ
+source_in timing i = (train_times timing i).source
 
-unfoldable pub source_in : List ℕ → ℕ → ℕ
-source_in timing i = get_or timing (place_of_source i) 0
+unfoldable pub period_in : Timing → ℕ → ℕ
+period_in timing s = (train_times timing s).period
 
-unfoldable pub period_in : List ℕ → ℕ → ℕ
-period_in timing s = get_or timing (place_of_period s) 0
+abbrev pub with_slack : Timing → ℕ → ℕ → Timing
+with_slack timing s v = record { trains = set timing.trains (s - 1) (record (train_times timing s) { slack = v }) }
+
+abbrev pub with_source : Timing → ℕ → ℕ → Timing
+with_source timing i v = record { trains = set timing.trains (i - 1) (record (train_times timing i) { source = v }) }
+
+abbrev pub with_period : Timing → ℕ → ℕ → Timing
+with_period timing s v = record { trains = set timing.trains (s - 1) (record (train_times timing s) { period = v }) }
 
 -- a train arrives with its departure delay and its source delay
-abbrev pub running_in : List ℕ → Running
+abbrev pub running_in : Timing → Running
 running_in timing = record { slack = slack_in timing; arrive = λ i x. x + source_in timing i }
 
 -- no source delay and no period is over 1,440
-pub record TimingGiven (m : ℕ) (timing : List ℕ) : Type 0 where
+pub record TimingGiven (m : ℕ) (timing : Timing) : Type 0 where
   pub trains : m ≤ 64
-  pub long : length timing ≡ timing_count
   pub source : (i : ℕ) → 1 ≤ i → i ≤ m → source_in timing i ≤ 1440
   pub period : (s : ℕ) → 1 ≤ s → s ≤ m → period_in timing s ≤ 1440

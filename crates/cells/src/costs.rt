@@ -1,91 +1,49 @@
-// What the two choices cost along a run, but for the cells that they rest on, as one list by
-// station: the excess, what keep costs, what go costs. No other file knows where they stand.
-ghost use Rattle.std.specs.Prelude.{◌≡◌, ◌≤◌, length};
-ghost use Rattle.cells.specs.Sums.{Boarders};
-ghost use Rattle.cells.specs.Book.{book_in, BookGiven};
-ghost use Rattle.cells.specs.Costs.{costs_count, excess_in, keep_in, go_in, with_costs};
-ghost use Rattle.cells.specs.Costs.{CostsAlong};
+// What the two choices cost along a run, but for the cells that they rest on, station by station.
+ghost use Rattle.std.specs.Prelude.{◌≡◌, ◌≤◌};
+ghost use Rattle.cells.specs.Costs.{no_costs, excess_in, keep_in, go_in, with_costs};
 
-use crate::sums::leaving;
-use crate::timing::{arrives, cost, excess_at, period_at};
-use terms::{Station, Train};
+use terms::Station;
 
-// The places of the list, and where the costs of keep and of go begin.
-pub const COSTS: usize = 192;
-
-const KEEPS: usize = 64;
-
-const GOES: usize = 128;
-
-// The excess at a station of the run.
-pub fn excess_on(costs: &[u64], station: Station) -> u64
-    requires { (1 ≤ station.0) × (station.0 ≤ 64) × (length costs.now ≡ costs_count) }
-    ensures { result ≡ excess_in costs.now station.0 }
-{
-    costs[station.index()]
+// At one station: the excess, what keep costs but for the cell after it, and what go costs but for
+// the cell on the diagonal.
+#[derive(Clone, Copy, Default)]
+pub struct Cost {
+    pub excess: u64,
+    pub keep: u64,
+    pub go: u64,
 }
 
-// What keep costs there, but for the cell after it.
-pub fn keep_on(costs: &[u64], station: Station) -> u64
-    requires { (1 ≤ station.0) × (station.0 ≤ 64) × (length costs.now ≡ costs_count) }
-    ensures { result ≡ keep_in costs.now station.0 }
-{
-    costs[KEEPS + station.index()]
+#[derive(Drop)]
+pub struct Costs {
+    stations: [Cost; 64],
 }
 
-// What go costs there, but for the cell on the diagonal.
-pub fn go_on(costs: &[u64], station: Station) -> u64
-    requires { (1 ≤ station.0) × (station.0 ≤ 64) × (length costs.now ≡ costs_count) }
-    ensures { result ≡ go_in costs.now station.0 }
-{
-    costs[GOES + station.index()]
-}
+impl Costs {
+    // 0 at every station.
+    pub fn zeros() -> Costs
+        ensures { result ≡ no_costs }
+    {
+        Costs {
+            stations: [Cost::default(); 64],
+        }
+    }
 
-// Stores all three of a station.
-fn put_costs(costs: &mut [u64], station: Station, excess: u64, keep: u64, go: u64)
-    requires { (1 ≤ station.0) × (station.0 ≤ 64) × (length costs.old ≡ costs_count) }
-    ensures { costs.new ≡
-        with_costs costs.old station.0 excess keep go }
-{
-    let k = station.index();
-    costs[k] = excess;
-    costs[KEEPS + k] = keep;
-    costs[GOES + k] = go;
-}
+    // The costs at a station of the run.
+    #[tactic(auto, unfolding(crate::specs::Costs::excess_in, crate::specs::Costs::keep_in, crate::specs::Costs::go_in))]
+    pub fn on(&self, station: Station) -> Cost
+        requires { (1 ≤ station.0) × (station.0 ≤ 64) }
+        ensures excess { result.excess ≡ excess_in self.now station.0 }
+        ensures keep { result.keep ≡ keep_in self.now station.0 }
+        ensures go { result.go ≡ go_in self.now station.0 }
+    {
+        self.stations[station.index()]
+    }
 
-// Fills the list for the run that begins with `first` on time. `boarded` are those who board where
-// it begins or later and leave this train or a later one: but for those who board here or later,
-// they are aboard.
-pub fn costs_along(
-    costs: &mut [u64],
-    first: Train,
-    m: u32,
-    timing: &[u32],
-    sums: &[u32],
-    boarding: &[u64],
-)
-    requires { BookGiven m timing.now sums.now × Boarders m sums.now boarding.now ×
-        (1 ≤ first.0) × (first.0 ≤ m) × (length costs.old ≡ costs_count) }
-    ensures { CostsAlong (book_in m timing.now sums.now)
-        first.0 costs.new }
-{
-    let from = first.leaves();
-    let mut late: u64 = 0;
-    let mut boarded = boarding[from.index()];
-    let mut i = first.0;
-    while i <= m {
-        let train = Train(i);
-        let station = train.leaves();
-        let excess = excess_at(timing, station, late);
-        late = arrives(timing, train, excess);
-        let leave = leaving(sums, m, from, train);
-        let keep = cost(leave, late);
-        let go = cost(
-            boarded - boarding[station.index()],
-            period_at(timing, station),
-        );
-        put_costs(costs, station, excess, keep, go);
-        boarded -= leave;
-        i += 1;
+    // Stores those of a station.
+    pub(crate) fn put_costs(&mut self, station: Station, cost: Cost)
+        requires { (1 ≤ station.0) × (station.0 ≤ 64) }
+        ensures { self.new ≡ with_costs self.old station.0 cost }
+    {
+        self.stations[station.index()] = cost;
     }
 }

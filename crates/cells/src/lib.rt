@@ -2,6 +2,7 @@
 // sums of those who leave, and what the two choices cost along a run. Nothing here writes a cell.
 #![tactic(auto)]
 
+pub mod book;
 pub mod costs;
 pub mod limits;
 pub mod place;

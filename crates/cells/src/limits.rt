@@ -16,14 +16,12 @@ fn check_row(cells: &[u64], m: u32, first: Train) -> Verdict
         (length cells.now ≡ cell_count) }
     ensures { result ≡ row_verdict m cells.now first.0 }
 {
-    let mut l = first.leaves().0;
-    while l <= m {
+    for l in first.leaves().0..=m {
         if LIMIT < cell_at(cells, m, first, Station(l)) {
-            return Verdict::Refused(Refusal::OfReport(ReportFault::CellOverLimit(first)));
+            return Err(Refusal::OfReport(ReportFault::CellOverLimit(first)));
         }
-        l += 1;
     }
-    Verdict::Fine
+    Ok(())
 }
 
 // The rows after the train's own, one after the other.
@@ -31,13 +29,8 @@ pub fn check_rows_after(cells: &[u64], m: u32, train: Train) -> Verdict
     requires { (train.0 ≤ m) × (m ≤ 64) × (length cells.now ≡ cell_count) }
     ensures { result ≡ later_verdict m cells.now train.0 }
 {
-    let mut k = train.0 + 1;
-    while k <= m {
-        let row = check_row(cells, m, Train(k));
-        if let Verdict::Refused(_) = row {
-            return row;
-        }
-        k += 1;
+    for k in train.0 + 1..=m {
+        check_row(cells, m, Train(k))?;
     }
-    Verdict::Fine
+    Ok(())
 }

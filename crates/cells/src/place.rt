@@ -9,6 +9,7 @@ pub const CELLS: usize = 4096;
 
 // The cell of the run from `first` at station `at`, of a line of `m` trains. In this layout it
 // stands in the same place whatever `m` is.
+#[tactic(auto, unfolding(crate::specs::Place::place))]
 pub fn place(m: u32, first: Train, at: Station) -> usize
     requires { (1 ≤ first.0) × (first.0 ≤ at.0) × (at.0 ≤ m) × (m ≤ 64) }
     ensures { result ≡ place m first.0 at.0 }
@@ -17,7 +18,7 @@ pub fn place(m: u32, first: Train, at: Station) -> usize
 }
 
 // What that cell holds; 0 at the last station, for which none is stored.
-#[tactic(auto, using(crate::proofs::Places::table_in, crate::proofs::Places::table_past))]
+#[tactic(auto, using(crate::proofs::Places::place_lt, crate::proofs::Places::table_in, crate::proofs::Places::table_past))]
 pub fn cell_at(cells: &[u64], m: u32, first: Train, at: Station) -> u64
     requires { (1 ≤ first.0) × (first.0 ≤ at.0) × (m ≤ 64) ×
         (length cells.now ≡ cell_count) }

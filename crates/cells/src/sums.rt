@@ -1,11 +1,10 @@
 // How many leave each train, by where they boarded: for station k and train l, those who board at
 // station k or later and leave train l.
-ghost use Rattle.std.specs.Prelude.{◌≡◌, ◌≤◌, ◌<◌, length};
+ghost use Rattle.std.specs.Prelude.{◌≡◌, ◌≤◌, ◌<◌};
 ghost use Rattle.line.specs.Ranges.{everyone};
 ghost use Rattle.cells.specs.Sums.{sums_count, place_of_sum, leaving_in, boarded_in};
 ghost use Rattle.cells.specs.Sums.{SumsGiven, Boarders};
 
-use crate::timing::wide;
 use terms::{Station, Train};
 
 // The places of the list.
@@ -13,6 +12,7 @@ pub const SUMS: usize = 4096;
 
 // Where the sum stands of those who board at `from` or later and leave `train`; no other function
 // knows.
+#[tactic(auto, unfolding(crate::specs::Sums::place_of_sum))]
 pub fn place_of_sum(from: Station, train: Train) -> usize
     requires { (1 ≤ from.0) × (from.0 ≤ 64) × (1 ≤ train.0) × (train.0 ≤ 64) }
     ensures { (result ≡ place_of_sum from.0 train.0) × (result < sums_count) }
@@ -21,40 +21,38 @@ pub fn place_of_sum(from: Station, train: Train) -> usize
 }
 
 // Those who board at `from` or later and leave `train`.
-pub fn leaving(sums: &[u32], m: u32, from: Station, train: Train) -> u64
+pub fn leaving(sums: &[u32; SUMS], m: u32, from: Station, train: Train) -> u64
     requires { SumsGiven m sums.now × (1 ≤ from.0) × (from.0 ≤ train.0) ×
         (train.0 ≤ m) }
     ensures { (result ≡ leaving_in sums.now from.0 train.0) ×
         (result ≤ everyone) }
 {
-    wide(sums, place_of_sum(from, train))
+    sums[place_of_sum(from, train)] as u64
 }
 
 // Those who board at `from` or later and leave `train` or a later one.
-fn boarded(sums: &[u32], m: u32, from: Station, train: Train) -> u64
+fn boarded(sums: &[u32; SUMS], m: u32, from: Station, train: Train) -> u64
     requires { SumsGiven m sums.now × (1 ≤ from.0) × (from.0 ≤ train.0) ×
         (train.0 ≤ m) }
     ensures { result ≡ boarded_in m sums.now from.0 train.0 }
 {
     let mut sum: u64 = 0;
-    let mut t = m;
-    while train.0 <= t {
+    for t in (train.0..=m).rev() {
         sum += leaving(sums, m, from, Train(t));
-        t -= 1;
     }
     sum
 }
 
 // By station, those who board there or later.
-pub fn boarders(boarding: &mut [u64], sums: &[u32], m: u32)
-    requires { SumsGiven m sums.now × (length boarding.old ≡ 64) }
-    ensures { Boarders m sums.now boarding.new }
+pub(crate) fn boarders(sums: &[u32; SUMS], m: u32) -> [u64; 64]
+    requires { SumsGiven m sums.now }
+    ensures { Boarders m sums.now result }
 {
-    let mut i = 1;
-    while i <= m {
+    let mut boarding = [0u64; 64];
+    for i in 1..=m {
         let train = Train(i);
         let from = train.leaves();
         boarding[from.index()] = boarded(sums, m, from, train);
-        i += 1;
     }
+    boarding
 }

@@ -1,84 +1,91 @@
-// The times of a line, as one list: the slack by station, the source delay by train, the period by
-// station. In code no other file knows where they stand.
-ghost use Rattle.std.specs.Prelude.{◌≡◌, ◌+◌, ◌-◌, ◌*◌, ◌≤◌, ◌<◌, length, get_or, set};
+// The times of a line, train by train. What else reads or stores one of them calls this file.
+ghost use Rattle.std.specs.Prelude.{◌≡◌, ◌+◌, ◌-◌, ◌*◌, ◌≤◌};
 ghost use Rattle.line.specs.Ranges.{latest, everyone, limit};
-ghost use Rattle.cells.specs.Timing.{timing_count, place_of_slack};
-ghost use Rattle.cells.specs.Timing.{place_of_source, place_of_period};
-ghost use Rattle.cells.specs.Timing.{slack_in, source_in, period_in};
+ghost use Rattle.cells.specs.Timing.{no_times, slack_in, source_in, period_in};
+ghost use Rattle.cells.specs.Timing.{with_slack, with_source, with_period};
 
 use terms::{Station, Train};
 
-// The places of the list, and where the source delays and the periods begin.
-pub const TIMING: usize = 192;
-
-const SOURCES: usize = 64;
-
-const PERIODS: usize = 128;
-
-// A number of a list, as wide as a total.
-pub fn wide(list: &[u32], index: usize) -> u64
-    requires { index < length list.now }
-    ensures { result ≡ get_or list.now index 0 }
-{
-    let number = list[index];
-    number as u64
+// Of one train: the slack at the station that it leaves, its source delay, and the minutes that
+// each passenger counts who misses it there.
+#[derive(Clone, Copy, Default)]
+struct TrainTimes {
+    slack: u32,
+    source: u32,
+    period: u32,
 }
 
-// What is left of the feeder's arrival delay once the slack at the station is used up.
-pub fn excess_at(timing: &[u32], station: Station, late: u64) -> u64
-    requires { (1 ≤ station.0) × (station.0 ≤ 64) × (length timing.now ≡ timing_count) }
-    ensures { result ≡ late - slack_in timing.now station.0 }
-{
-    let swallowed = wide(timing, station.index());
-    if swallowed < late {
-        late - swallowed
-    } else {
-        0
+#[derive(Drop)]
+pub struct Timing {
+    trains: [TrainTimes; 64],
+}
+
+impl Timing {
+    // 0 for every train.
+    pub fn zeros() -> Timing
+        ensures { result ≡ no_times }
+    {
+        Timing {
+            trains: [TrainTimes::default(); 64],
+        }
     }
-}
 
-// A train's arrival delay by its departure delay.
-pub fn arrives(timing: &[u32], train: Train, departs: u64) -> u64
-    requires { (1 ≤ train.0) × (train.0 ≤ 64) × (length timing.now ≡ timing_count) ×
-        (departs ≤ latest) }
-    ensures { result ≡ departs + source_in timing.now train.0 }
-{
-    departs + wide(timing, SOURCES + train.index())
-}
+    // What is left of the feeder's arrival delay once the slack at the station is used up.
+    #[tactic(auto, unfolding(crate::specs::Timing::slack_in))]
+    pub fn excess_at(&self, station: Station, late: u64) -> u64
+        requires { (1 ≤ station.0) × (station.0 ≤ 64) }
+        ensures { result ≡ late - slack_in self.now station.0 }
+    {
+        late.saturating_sub(self.trains[station.index()].slack as u64)
+    }
 
-// The minutes that each passenger counts who misses the connection at a station.
-pub fn period_at(timing: &[u32], station: Station) -> u64
-    requires { (1 ≤ station.0) × (station.0 ≤ 64) × (length timing.now ≡ timing_count) }
-    ensures { result ≡ period_in timing.now station.0 }
-{
-    wide(timing, PERIODS + station.index())
-}
+    // A train's arrival delay by its departure delay.
+    #[tactic(auto, unfolding(crate::specs::Timing::source_in))]
+    pub fn arrives(&self, train: Train, departs: u64) -> u64
+        requires { (1 ≤ train.0) × (train.0 ≤ 64) × (departs ≤ latest) }
+        ensures { result ≡ departs + source_in self.now train.0 }
+    {
+        departs + self.trains[train.index()].source as u64
+    }
 
-// The slack at a station becomes so many minutes.
-pub fn set_slack(timing: &mut [u32], station: Station, minutes: u32)
-    requires { (1 ≤ station.0) × (station.0 ≤ 64) × (length timing.old ≡ timing_count) }
-    ensures { timing.new ≡
-        set timing.old (place_of_slack station.0) minutes }
-{
-    timing[station.index()] = minutes;
-}
+    // The minutes that each passenger counts who misses the connection at a station.
+    #[tactic(auto, unfolding(crate::specs::Timing::period_in))]
+    pub fn period_at(&self, station: Station) -> u64
+        requires { (1 ≤ station.0) × (station.0 ≤ 64) }
+        ensures { result ≡ period_in self.now station.0 }
+    {
+        self.trains[station.index()].period as u64
+    }
 
-// The source delay of a train becomes so many minutes.
-pub fn set_source(timing: &mut [u32], train: Train, minutes: u32)
-    requires { (1 ≤ train.0) × (train.0 ≤ 64) × (length timing.old ≡ timing_count) }
-    ensures { timing.new ≡
-        set timing.old (place_of_source train.0) minutes }
-{
-    timing[SOURCES + train.index()] = minutes;
-}
+    // The slack at a station becomes so many minutes.
+    #[tactic(auto, unfolding(crate::specs::Timing::slack_in))]
+    pub fn set_slack(&mut self, station: Station, minutes: u32)
+        requires { (1 ≤ station.0) × (station.0 ≤ 64) }
+        ensures whole { self.new ≡ with_slack self.old station.0 minutes }
+        ensures here { slack_in self.new station.0 ≡ minutes }
+    {
+        self.trains[station.index()].slack = minutes;
+    }
 
-// The period at a station becomes so many minutes.
-pub fn set_period(timing: &mut [u32], station: Station, minutes: u32)
-    requires { (1 ≤ station.0) × (station.0 ≤ 64) × (length timing.old ≡ timing_count) }
-    ensures { timing.new ≡
-        set timing.old (place_of_period station.0) minutes }
-{
-    timing[PERIODS + station.index()] = minutes;
+    // The source delay of a train becomes so many minutes.
+    #[tactic(auto, unfolding(crate::specs::Timing::source_in))]
+    pub fn set_source(&mut self, train: Train, minutes: u32)
+        requires { (1 ≤ train.0) × (train.0 ≤ 64) }
+        ensures whole { self.new ≡ with_source self.old train.0 minutes }
+        ensures here { source_in self.new train.0 ≡ minutes }
+    {
+        self.trains[train.index()].source = minutes;
+    }
+
+    // The period at a station becomes so many minutes.
+    #[tactic(auto, unfolding(crate::specs::Timing::period_in))]
+    pub fn set_period(&mut self, station: Station, minutes: u32)
+        requires { (1 ≤ station.0) × (station.0 ≤ 64) }
+        ensures whole { self.new ≡ with_period self.old station.0 minutes }
+        ensures here { period_in self.new station.0 ≡ minutes }
+    {
+        self.trains[station.index()].period = minutes;
+    }
 }
 
 // What so many passengers count.

@@ -13,13 +13,13 @@ use Rattle.lists.proofs.Run.{padded_length}
 use Rattle.terms.specs.declared.Refusal.{Refusal}
 use Rattle.terms.specs.declared.ListFault.TheVariants.{BufferLength}
 use Rattle.terms.specs.declared.Refusal.TheVariants.{OfList}
-use Rattle.terms.specs.declared.Verdict.{Verdict}
-use Rattle.terms.specs.declared.Verdict.TheVariants.{Fine, Refused}
+use Rattle.std.specs.Prelude.{Err}
+use Rattle.terms.specs.Verdict.{Verdict, Fine}
+use Rattle.terms.specs.Answer.{Answer}
 use Rattle.terms.specs.Refusal.{blanks_of}
 use Rattle.terms.specs.Verdict.{◌and_then◌, number_in, place_in}
 use Rattle.terms.proofs.Checks.{fine_or_refused}
 use Rattle.terms.proofs.Refusing.{zero_is_fine}
-use Rattle.terms.specs.declared.Answer.{Answer}
 use Rattle.terms.specs.Answer.{answer_number, answer_place, answer_carries}
 use Rattle.line.specs.Line.{Line, line_from}
 use Rattle.line.specs.Cells.{book_of}
@@ -82,7 +82,7 @@ module _ (w : Verdict) (Stored : ℕ → Type 0) (before after : Buffers) (a : A
   pub zero_of_fine : checks ≡ Fine → answer_number a ≡ 0
   zero_of_fine fine = number ∙ ap number_in fine
 
-  refused_by : (r : Refusal) → checks ≡ Refused r → Carries operations r a
+  refused_by : (r : Refusal) → checks ≡ Err r → Carries operations r a
   refused_by r e =
       record {
         number = number ∙ ap number_in e;
@@ -91,18 +91,18 @@ module _ (w : Verdict) (Stored : ℕ → Type 0) (before after : Buffers) (a : A
       }
 
   -- with buffers of other lengths it writes nothing
-  nothing_written : checks ≡ Refused (OfList BufferLength) → after ≡ before
+  nothing_written : checks ≡ Err (OfList BufferLength) → after ≡ before
   nothing_written e = (h.refused (OfList BufferLength) e).kept refl
 
   module _ (Passes : Type 0) (m last : ℕ) (passes : w ≡ Fine → Passes) (fine_of : Passes → w ≡ Fine)
-      (blank : (r : Refusal) → w ≡ Refused r → blanks_of r ≡ true)
+      (blank : (r : Refusal) → w ≡ Err r → blanks_of r ≡ true)
       (left : RightLengths before → w ≡ Fine → Stored (answer_carries a) → Left m last before after (answer_carries a))
     where
       left_when : checks ≡ Fine → Left m last before after (answer_carries a)
       left_when fine = let both = checks_fine before w fine in left both.0 both.1 (h.accepted fine)
 
       -- with buffers of the right lengths a refusal is one of w's, and such a one blanks
-      blanked : RightLengths before → (r : Refusal) → checks ≡ Refused r → Blanked before after
+      blanked : RightLengths before → (r : Refusal) → checks ≡ Err r → Blanked before after
       blanked right r e = (h.refused r e).blanked (blank r (sym (checks_right before w right) ∙ e))
 
       right_after : RightLengths before → RightLengths after

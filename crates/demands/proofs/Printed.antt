@@ -10,13 +10,12 @@ use lib.ListN.{length, get_or}
 use Rattle.lists.specs.Choice.{if_below}
 use Rattle.lists.specs.Run.{listed, padded, nth}
 use Rattle.lists.proofs.Choice.{below_yes, below_no}
-use Rattle.lists.proofs.Order.{lt_or_ge}
+use Rattle.std.proofs.lemmas.Bool.{cases_lt}
 use Rattle.lists.proofs.Run.{listed_each, listed_padded, padded_same}
-use Rattle.terms.specs.declared.Verdict.{Verdict}
-use Rattle.terms.specs.declared.Verdict.TheVariants.{Fine}
+use Rattle.std.specs.Prelude.{Ok}
+use Rattle.terms.specs.Verdict.{Verdict, Fine}
+use Rattle.terms.specs.Answer.{Answer}
 use Rattle.terms.specs.Answer.{answer_carries, answer_of}
-use Rattle.terms.specs.declared.Answer.{Answer}
-use Rattle.terms.specs.declared.Answer.TheVariants.{Accepted}
 use Rattle.line.specs.Line.{Line, line_from}
 use Rattle.line.specs.Policy.{Decision, Keep, Policy, arrival, total}
 use Rattle.line.specs.Cells.{Table, book_of, Worked}
@@ -78,7 +77,7 @@ byte_at (d ∷ ds) (suc k) h = byte_at ds k (omega arith)
 -- 0 for train 1, then the decisions
 byte_of_decision : (ds : List Decision) (i : ℕ) → 1 ≤ i → i ≤ length ds + 1
     → if_below 1 i (byte_of (policy_from ds i)) 0 ≡ nth (0 ∷ map byte_of ds) i
-byte_of_decision ds i a b = elim (lt_or_ge 1 i) [
+byte_of_decision ds i a b = elim (cases_lt 1 i) [
   | inl u ↦
       let e : i - 1 ≡ suc (i - 2) = omega arith in
       below_yes _ _ u ∙ byte_at ds (i - 2) (omega arith) ∙ ap (λ (k : ℕ). get_or (0 ∷ map byte_of ds) k 0) (sym e)
@@ -144,6 +143,6 @@ module _ (s : List ℕ) (M : Line) (x : CaseAnswer) (fine : sheet_verdict s ≡ 
       record {
         answer =
             h.answer ∙ ap (λ (v : Verdict). answer_of v (answer_carries a)) passed
-            ∙ ap Accepted (plan.costs ∙ total_is);
+            ∙ ap Ok (plan.costs ∙ total_is);
         held = record { decisions = decisions_are; delays = delays_are; cells = cells_are };
       }

@@ -1,6 +1,7 @@
 -- The round trips. What read leaves are the sheet's numbers and what write
 -- leaves is the sheet of its numbers, and the sheet of given numbers is unique.
 -- Assumes nothing.
+use Rattle.terms.specs.Answer.{head}
 use mathlib.Core.Path.{◌≡◌, refl, sym, ap, ap₂, subst, ◌∙◌}
 use mathlib.Core.List.{List}
 use Prim.Native.Nat.{ℕ, ◌+◌, ◌-◌, ◌≤◌}
@@ -10,13 +11,13 @@ use lib.Seq.{ext_get_or, get_or-take, length-take-le}
 use Rattle.lists.specs.Run.{nth, padded}
 use Rattle.lists.proofs.Run.{padded_length, padded_nth}
 use Rattle.bits.specs.Field.{Bytes}
-use Rattle.terms.specs.declared.Verdict.TheVariants.{Fine}
+use Rattle.std.specs.Prelude.{Ok}
+use Rattle.terms.specs.Verdict.{Verdict, Fine}
+use Rattle.terms.specs.Answer.{Answer}
+use Rattle.reader.specs.Reading.{Reading}
 use Rattle.terms.proofs.Checks.{then_fine, fine_then}
 use Rattle.terms.specs.Answer.{answer_of}
 use Rattle.terms.proofs.Answers.{accepted_answer}
-use Rattle.terms.specs.declared.Verdict.{Verdict}
-use Rattle.terms.specs.declared.Answer.{Answer}
-use Rattle.terms.specs.declared.Answer.TheVariants.{Accepted as WriteAccepted}
 use Rattle.sheet.specs.Format.{trains_of, period_of, departure_of, driving_of, delay_of}
 use Rattle.sheet.specs.Format.{passengers_of, bytes_of, pairs_of}
 use Rattle.sheet.specs.Numbers.{Lists, lists, numbers_of}
@@ -29,9 +30,7 @@ use Rattle.writer.specs.Write.{Given, numbers_given, write_verdict, Write, Accep
 use Rattle.writer.proofs.Facts.{accepts_of_fine, fine_of_accepts}
 use Rattle.reader.specs.Reading.{reading_of}
 use Rattle.reader.specs.Read.{read_verdict, Read}
-use Rattle.reader.proofs.ReadingOf.{accepted_fine}
-use Rattle.reader.specs.declared.Reading.{Reading}
-use Rattle.reader.specs.declared.Reading.TheVariants.{Accepted as ReadAccepted}
+use Rattle.reader.proofs.ReadingOf.{accepted_reading}
 use Rattle.demands.specs.OneMeaning.{given_from, ReadThenWrite, WriteThenRead, EqualFields}
 
 pub equal_fields : EqualFields
@@ -61,10 +60,10 @@ record Got (s : List ℕ) (after : Lists) (m T : ℕ) : Type 0 where
   delays : after.delays ≡ padded 64 (trains_of s) (delay_of s)
   passengers : after.passengers ≡ padded 2080 (pairs_of (trains_of s)) (passengers_of s)
 
-got : (s : List ℕ) (before after : Lists) (m T : ℕ) → Read s before after (ReadAccepted m T) → Got s after m T
+got : (s : List ℕ) (before after : Lists) (m T : ℕ) → Read s before after (Ok (head m T)) → Got s after m T
 unfolding read_verdict
 got s before after m T h =
-    let told = accepted_fine (read_verdict s before) _ _ h.answer in
+    let told = accepted_reading (read_verdict s before) _ _ h.answer in
     let fine = (then_fine _ (sheet_verdict s) told.0).1 in
     record {
       ok = accepted_of_fine s fine;
@@ -118,13 +117,13 @@ module _ (s : List ℕ) (after : Lists) (g : Got s after (trains_of s) (period_o
       }
 
   write_again : (buffer written : List ℕ) (w : Answer) → Bytes s → length buffer ≡ 3907 → Write again buffer written w
-      → (w ≡ WriteAccepted (length s)) × (take (length s) written ≡ s)
+      → (w ≡ Ok (length s)) × (take (length s) written ≡ s)
   write_again buffer written w b e h =
       let long = g.ok.long in
       let fine : write_verdict (length buffer) again ≡ Fine
       = ap (λ (n : ℕ). write_verdict n again) e ∙ fine_of_accepts 3907 again again_accepts in (
         h.answer ∙ ap (λ (v : Verdict). answer_of v (bytes_of (trains_of s))) fine
-            ∙ ap (λ (n : ℕ). WriteAccepted n) (sym long),
+            ∙ ap (λ (n : ℕ). Ok n) (sym long),
         ap (λ (n : ℕ). take n written) long ∙ sheet_of_one (numbers_given again) _ s (h.sheet fine) (again_sheet b),
       )
 
@@ -152,7 +151,7 @@ module _ (s : List ℕ) (before after : Lists) (a : Reading) (ok : AcceptedSheet
   unfolding read_verdict
   read_fine = fine_then (fine_of_lengths _ _ _ _ room) (fine_of_accepted s ok)
 
-  read_answer : a ≡ ReadAccepted (trains_of s) (period_of s)
+  read_answer : a ≡ Ok (head (trains_of s) (period_of s))
   read_answer = h.answer ∙ ap (λ (v : Verdict). reading_of v (trains_of s) (period_of s)) read_fine
 
 module _ (G : Given) (s : List ℕ) (after : Lists) (accepts : Accepts 3907 G) (sheet : SheetOf (numbers_given G) s)
@@ -192,7 +191,7 @@ module _ (G : Given) (s : List ℕ) (after : Lists) (accepts : Accepts 3907 G) (
         lists = lists (departures_back i) (driving_back i) (delays_back i) (passengers_back i);
       }
 
-module _ (G : Given) (buffer written : List ℕ) (n : ℕ) (h : Write G buffer written (WriteAccepted n)) where
+module _ (G : Given) (buffer written : List ℕ) (n : ℕ) (h : Write G buffer written (Ok n)) where
   told : (write_verdict (length buffer) G ≡ Fine) × (n ≡ bytes_of G.trains)
   told = accepted_answer (write_verdict (length buffer) G) _ h.answer
 
@@ -212,4 +211,4 @@ write_then_read G buffer written n before after a h room k =
     let T : period_of s ≡ G.period = sheet.numbers.period in
     let answer = read_answer s before after a ok room k in
     let g = got s before after (trains_of s) (period_of s) (subst (λ (r : Reading). Read s before after r) answer k) in
-    (answer ∙ ap₂ (λ (x y : ℕ). ReadAccepted x y) m T, rw (m, T) at (lists_back G s after accepts sheet g))
+    (answer ∙ ap₂ (λ (x y : ℕ). Ok (head x y)) m T, rw (m, T) at (lists_back G s after accepts sheet g))

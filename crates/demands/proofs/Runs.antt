@@ -10,13 +10,12 @@ use native.Mathlib.Nat.{le_trans}
 use native.Mathlib.Omega.{arith}
 use lib.ListN.{get_or}
 use Rattle.terms.specs.declared.Refusal.{Refusal}
-use Rattle.terms.specs.declared.Verdict.{Verdict}
-use Rattle.terms.specs.declared.Verdict.TheVariants.{Fine, Refused}
+use Rattle.std.specs.Prelude.{Ok, Err}
+use Rattle.terms.specs.Verdict.{Verdict, Fine}
+use Rattle.terms.specs.Answer.{Answer}
 use Rattle.terms.specs.Verdict.{number_in}
 use Rattle.terms.proofs.Checks.{refused_not_fine, fine_or_refused}
 use Rattle.terms.proofs.Refusing.{Only, only_of, only_then}
-use Rattle.terms.specs.declared.Answer.{Answer}
-use Rattle.terms.specs.declared.Answer.TheVariants.{Accepted}
 use Rattle.terms.specs.Answer.{answer_number, answer_carries, answer_of}
 use Rattle.line.specs.Line.{Line, line_from}
 use Rattle.line.specs.Cells.{Table, Book, book_of, Worked}
@@ -131,7 +130,7 @@ cells_kept {checks} h refused = elim (fine_or_refused checks) [
 
 module _ (s : List ℕ) (i v : ℕ) (before : Buffers) (standing : Standing s before.cells) where
   -- neither the sheet nor the later rows refuse
-  refusals : (r : Refusal) → report_verdict s i v before ≡ Refused r → OfItself i r
+  refusals : (r : Refusal) → report_verdict s i v before ≡ Err r → OfItself i r
   unfolding report_verdict own_verdict report_checks
   refusals =
       let P : Refusal → Type 0 = OfItself i in
@@ -206,7 +205,7 @@ module _ (s : List ℕ) (i v : ℕ) (before : Buffers) (t : List ℕ) (after : B
         settled_planned L (trains_of t) before after (answer_carries a) refl
         (whole_settled (book_of L) i before after _ (omega (arith, trains, told.2.most)) done.settled (whole _))
 
-    accepted : a ≡ Accepted (answer_carries a)
+    accepted : a ≡ Ok (answer_carries a)
     accepted = h.outcome.answer ∙ ap (λ (c : Verdict). answer_of c (answer_carries a)) fine
 
     is_plan : Plan t before after a
@@ -274,7 +273,7 @@ pub run_accepted : {s cells : List ℕ} → InRun operations s cells → Accepte
 run_accepted run = (standing_in_run run).ok
 
 pub run_refusals : (s : List ℕ) (i v : ℕ) (before : Buffers) → InRun operations s before.cells → (r : Refusal)
-    → report_verdict s i v before ≡ Refused r → OfItself i r
+    → report_verdict s i v before ≡ Err r → OfItself i r
 run_refusals s i v before run = refusals s i v before (standing_in_run run)
 
 begin : (s : List ℕ) (lent : Buffers) → AcceptedSheet s → Right operations tt lent → Begun operations tt s lent

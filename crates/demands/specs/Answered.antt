@@ -14,8 +14,8 @@ use Rattle.bits.specs.Field.{Bytes}
 use Rattle.terms.specs.declared.Refusal.{Refusal}
 use Rattle.terms.specs.declared.ReportFault.TheVariants.{NoSuchTrain, NewDelay, CellOverLimit}
 use Rattle.terms.specs.declared.Refusal.TheVariants.{OfReport}
-use Rattle.terms.specs.declared.Verdict.{Verdict}
-use Rattle.terms.specs.declared.Verdict.TheVariants.{Refused}
+use Rattle.std.specs.Prelude.{Err}
+use Rattle.terms.specs.Verdict.{Verdict}
 use Rattle.terms.specs.Refusal.{train, number_of, place_of}
 use Rattle.line.specs.Ranges.{limit}
 use Rattle.sheet.specs.Format.{trains_of}
@@ -47,7 +47,7 @@ pub record Answered (C : Calling) (checks : Verdict) (Passes : Type 0) (m last :
   pub accepted_only : C.number a ≡ 0 → Right C x before × Passes
   pub accepted_place : C.number a ≡ 0 → C.place a ≡ 0
   -- Bad input is refused by number, in a fixed order of checks: for the first check that fails.
-  pub refuses : C.Fits x → (r : Refusal) → checks ≡ Refused r → Carries C r a
+  pub refuses : C.Fits x → (r : Refusal) → checks ≡ Err r → Carries C r a
   -- A refused plan or report, its buffers being of the right length, blanks the decisions and the delays, and changes
   -- no working cell.
   pub blanks : Right C x before → ¬ (C.number a ≡ 0) → Blanked before after

@@ -5,18 +5,18 @@
 --   EqualFields     two accepted sheets with equal fields are equal
 --   OneMeaning      all three
 -- Assumes nothing.
+use Rattle.terms.specs.Answer.{head}
 use Rattle.std.specs.Prelude.{ℕ, ◌≡◌, List, length, take}
 use Rattle.bits.specs.Field.{Bytes}
-use Rattle.terms.specs.declared.Verdict.TheVariants.{Fine}
-use Rattle.terms.specs.declared.Answer.{Answer}
-use Rattle.terms.specs.declared.Answer.TheVariants.{Accepted as WriteAccepted}
+use Rattle.std.specs.Prelude.{Ok}
+use Rattle.terms.specs.Verdict.{Fine}
+use Rattle.terms.specs.Answer.{Answer}
+use Rattle.reader.specs.Reading.{Reading}
 use Rattle.sheet.specs.Format.{pairs_of}
 use Rattle.sheet.specs.Numbers.{Lists, lists, numbers_of}
 use Rattle.sheet.specs.Checks.{sheet_verdict}
 use Rattle.sheet.specs.Accepted.{Lengths, SameNumbers}
 use Rattle.writer.specs.Write.{Given, given, Write}
-use Rattle.reader.specs.declared.Reading.{Reading}
-use Rattle.reader.specs.declared.Reading.TheVariants.{Accepted as ReadAccepted}
 use Rattle.reader.specs.Read.{Read}
 
 -- the first m places of three lists and the first m(m+1)/2 of the fourth, as write takes them
@@ -29,18 +29,18 @@ abbrev pub ReadThenWrite : Type 0
 ReadThenWrite =
     (s : List ℕ) (before after : Lists) (m T : ℕ) (buffer written : List ℕ) (w : Answer)
     → Bytes s
-    → Read s before after (ReadAccepted m T)
+    → Read s before after (Ok (head m T))
     → length buffer ≡ 3907
     → Write (given_from m T after) buffer written w
-    → (w ≡ WriteAccepted (length s)) × (take (length s) written ≡ s)
+    → (w ≡ Ok (length s)) × (take (length s) written ≡ s)
 
 abbrev pub WriteThenRead : Type 0
 WriteThenRead =
     (G : Given) (buffer written : List ℕ) (n : ℕ) (before after : Lists) (a : Reading)
-    → Write G buffer written (WriteAccepted n)
+    → Write G buffer written (Ok n)
     → Lengths 64 2080 before
     → Read (take n written) before after a
-    → (a ≡ ReadAccepted G.trains G.period) × (given_from G.trains G.period after ≡ G)
+    → (a ≡ Ok (head G.trains G.period)) × (given_from G.trains G.period after ≡ G)
 
 abbrev pub EqualFields : Type 0
 EqualFields =

@@ -3,10 +3,10 @@
 --   Promises   that record
 -- Assumes nothing.
 use Rattle.std.specs.Prelude.{ℕ, List}
-use Rattle.terms.specs.declared.Answer.{Answer}
+use Rattle.terms.specs.Answer.{Answer}
+use Rattle.reader.specs.Reading.{Reading}
 use Rattle.sheet.specs.Numbers.{Lists}
 use Rattle.writer.specs.Write.{Given, Write, WriteTells}
-use Rattle.reader.specs.declared.Reading.{Reading}
 use Rattle.reader.specs.Read.{Read, ReadTells}
 use Rattle.demands.specs.Calling.{operations}
 use Rattle.demands.specs.Answered.{Demand1}

@@ -14,7 +14,7 @@ use Rattle.terms.specs.declared.Refusal.{Refusal}
 use Rattle.terms.specs.declared.ListFault.TheVariants.{BufferLength}
 use Rattle.terms.specs.declared.ReportFault.TheVariants.{NoSuchTrain, NewDelay}
 use Rattle.terms.specs.declared.Refusal.TheVariants.{OfList, OfReport}
-use Rattle.terms.specs.declared.Verdict.TheVariants.{Refused}
+use Rattle.std.specs.Prelude.{Err}
 use Rattle.terms.specs.Refusal.{train}
 use Rattle.sheet.specs.Format.{trains_of}
 use Rattle.sheet.specs.Accepted.{AcceptedSheet, DelayReplaced}
@@ -60,7 +60,7 @@ pub record ReportInRun (C : Calling) (x : C.Beside) (s : List ℕ) (i v : ℕ) (
   -- the working cells are ever the reason of a refusal.
   pub accepts : Right C x before → 1 ≤ i → i ≤ trains_of s → v ≤ 1440 → C.number a ≡ 0
   pub accepted_only : C.number a ≡ 0 → Right C x before × (1 ≤ i) × (i ≤ trains_of s) × (v ≤ 1440)
-  pub refusals : (r : Refusal) → report_verdict s i v before ≡ Refused r → OfItself i r
+  pub refusals : (r : Refusal) → report_verdict s i v before ≡ Err r → OfItself i r
   -- After each accepted report the decisions, delays, total and working cells in use are those of a fresh plan from the
   -- sheet as it now stands, whatever cells and buffers that plan is lent.
   pub fresh : C.number a ≡ 0 → (y : C.Beside) (b b' : Buffers) (a' : C.Result) → Right C y b

@@ -12,8 +12,8 @@
 -- Assumes nothing.
 use Rattle.std.specs.Prelude.{ℕ, ◌≤◌, ◌≡◌, List, [], ◌∷◌, map, get_or}
 use Rattle.lists.specs.Run.{nth, padded}
-use Rattle.terms.specs.declared.Answer.{Answer}
-use Rattle.terms.specs.declared.Answer.TheVariants.{Accepted}
+use Rattle.std.specs.Prelude.{Ok}
+use Rattle.terms.specs.Answer.{Answer}
 use Rattle.line.specs.Answers.{table_from, CaseAnswer}
 use Rattle.line.specs.Cases.{a as case_a, b4, b6, b7, b8}
 use Rattle.sheet.specs.SheetA.{sheet_a}
@@ -45,7 +45,7 @@ pub record Held (m : ℕ) (x : CaseAnswer) (b : Buffers) : Type 0 where
   pub cells : (k l : ℕ) → 1 ≤ k → k ≤ l → l ≤ m → get_or b.cells (place m k l) 0 ≡ table_from x.rows k l
 
 pub record Leaves (m : ℕ) (x : CaseAnswer) (after : Buffers) (a : Answer) : Type 0 where
-  pub answer : a ≡ Accepted x.total
+  pub answer : a ≡ Ok x.total
   pub held : Held m x after
 
 abbrev pub Answers : List ℕ → ℕ → CaseAnswer → Type 0

@@ -18,8 +18,8 @@ use Rattle.terms.specs.declared.Refusal.{Refusal}
 use Rattle.terms.specs.declared.ReportFault.TheVariants.{CellOverLimit}
 use Rattle.terms.specs.declared.Refusal.TheVariants.{OfReport}
 use Rattle.terms.specs.Refusal.{train}
-use Rattle.terms.specs.declared.Answer.{Answer}
-use Rattle.terms.specs.declared.Answer.TheVariants.{Refused as AnswerRefused}
+use Rattle.std.specs.Prelude.{Err}
+use Rattle.terms.specs.Answer.{Answer}
 use Rattle.line.specs.Policy.{Keep}
 use Rattle.line.specs.Cases.{b4}
 use Rattle.cells.specs.Shown.{shown}
@@ -35,7 +35,7 @@ abbrev pub RefusesAllBreaks : Type 0
 RefusesAllBreaks =
     (before after : Buffers) (r : Refusal)
     → RightLengths before
-    → ¬ (Plan sheet_b before after (AnswerRefused r))
+    → ¬ (Plan sheet_b before after (Err r))
 
 abbrev pub SameDecisionsBreak : Type 0
 SameDecisionsBreak =

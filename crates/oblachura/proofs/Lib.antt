@@ -1,4 +1,3 @@
-pub mod Stores
 pub mod Call
 pub mod Refused
 pub mod Answered

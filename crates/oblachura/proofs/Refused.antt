@@ -5,8 +5,8 @@ use native.Mathlib.Omega.{arith}
 use mathlib.Core.Path.{◌≡◌, ap, sym, ◌∙◌}
 use mathlib.Core.Logic.{inl, inr}
 use Rattle.terms.specs.declared.Refusal.{Refusal}
-use Rattle.terms.specs.declared.Verdict.{Verdict}
-use Rattle.terms.specs.declared.Answer.{Answer}
+use Rattle.terms.specs.Verdict.{Verdict}
+use Rattle.terms.specs.Answer.{Answer}
 use Rattle.terms.specs.Refusal.{number_of}
 use Rattle.terms.specs.Verdict.{number_in}
 use Rattle.terms.specs.Answer.{answer_number}

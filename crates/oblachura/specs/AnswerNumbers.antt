@@ -4,13 +4,11 @@
 --   answer_numbers a   number, place and what an accepted answer carries: the total, or in write the length
 -- Assumes nothing.
 use Rattle.std.specs.Prelude.{ℕ, List, ◌∷◌, []}
-use Rattle.terms.specs.declared.Answer.{Answer}
-use Rattle.terms.specs.Answer.{answer_number, answer_place, answer_carries}
-use Rattle.reader.specs.declared.Reading.{Reading}
-use Rattle.reader.specs.Reading.{read_number, read_place, read_trains, read_period}
+use Rattle.terms.specs.Answer.{Answer, answer_number, answer_place, answer_carries}
+use Rattle.reader.specs.Reading.{Reading, read_trains, read_period}
 
 abbrev pub read_numbers : Reading → List ℕ
-read_numbers a = read_number a ∷ read_place a ∷ read_trains a ∷ read_period a ∷ []
+read_numbers a = answer_number a ∷ answer_place a ∷ read_trains a ∷ read_period a ∷ []
 
 abbrev pub answer_numbers : Answer → List ℕ
 answer_numbers a = answer_number a ∷ answer_place a ∷ answer_carries a ∷ []

@@ -9,11 +9,11 @@
 -- list and stored are the list for the answer before and after the call, r is what the call returns.
 -- Assumes nothing.
 use Rattle.std.specs.Prelude.{ℕ, List}
-use Rattle.terms.specs.declared.Answer.{Answer}
+use Rattle.terms.specs.Answer.{Answer}
 use Rattle.terms.specs.Answer.{answer_number}
 use Rattle.sheet.specs.Numbers.{Lists}
 use Rattle.writer.specs.Write.{Given, Write}
-use Rattle.reader.specs.Reading.{read_number}
+use Rattle.terms.specs.Answer.{answer_number}
 use Rattle.reader.specs.Read.{Read}
 use Rattle.planner.specs.Buffers.{Buffers}
 use Rattle.planner.specs.Plan.{Plan}
@@ -23,7 +23,7 @@ use Rattle.oblachura.specs.Call.{Call}
 
 -- number, place, m and T
 abbrev pub ReadCall : List ℕ → Lists → List ℕ → Lists → List ℕ → ℕ → Type 0
-ReadCall s before = Call 4 read_number read_numbers (Read s before) before
+ReadCall s before = Call 4 answer_number read_numbers (Read s before) before
 
 -- number, place and length
 abbrev pub WriteCall : Given → List ℕ → List ℕ → List ℕ → List ℕ → ℕ → Type 0

@@ -1,11 +1,10 @@
 -- A planned sheet is accepted, so it has a head: its first field lies within it.
 -- Assumes nothing.
-use Rattle.std.proofs.Common.{ℕ, arith, ◌≡◌, sym, ◌∙◌, List}
+use Rattle.std.proofs.Common.{ℕ, arith, ◌≡◌, sym, ◌∙◌, List, Ok}
 use Rattle.std.proofs.Math.Dec.{lit≤}
 use Rattle.bits.specs.Field.{Within}
 use Rattle.terms.proofs.Answers.{accepted_answer}
-use Rattle.terms.specs.declared.Answer.{Answer}
-use Rattle.terms.specs.declared.Answer.TheVariants.{Accepted}
+use Rattle.terms.specs.Answer.{Answer}
 use Rattle.sheet.specs.Format.{trains_of}
 use Rattle.sheet.specs.Accepted.{AcceptedSheet}
 use Rattle.sheet.proofs.Lengths.{bytes_bits, layout}
@@ -13,7 +12,7 @@ use Rattle.planner.specs.Buffers.{Buffers}
 use Rattle.planner.specs.Plan.{plan_verdict, Plan}
 use Rattle.planner.proofs.Refusals.{accepted_of_plan}
 
-pub sheet_accepted : (s : List ℕ) {before after : Buffers} {a : Answer} {n : ℕ} → Plan s before after a → a ≡ Accepted n
+pub sheet_accepted : (s : List ℕ) {before after : Buffers} {a : Answer} {n : ℕ} → Plan s before after a → a ≡ Ok n
     → AcceptedSheet s
 sheet_accepted s {before} plan accepted =
     (accepted_of_plan s before (accepted_answer (plan_verdict s before) _ (sym accepted ∙ plan.answer)).0).1

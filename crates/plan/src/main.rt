@@ -13,7 +13,6 @@ use planner::plan;
 use sheet::format::{TRAINS_AT, TRAINS_WIDTH};
 use std::io;
 use std::io::{Read, Write};
-use terms::Answer;
 
 // Reads until the buffer is full or the input ends, and answers how many bytes were read.
 fn read_full<R: Read>(from: &mut R, buffer: &mut [u8]) -> io::Result<usize>
@@ -67,10 +66,8 @@ fn main(rt: HostRuntime) -> io::Result<()> {
     let answer = plan(sheet, &mut cells, &mut decisions, &mut delays);
     let mut out = rt.stdout();
     match answer {
-        Answer::Refused(refusal) => {
-            writeln!(out, "refused {} {}", refusal.number(), refusal.place())
-        }
-        Answer::Accepted(total) => {
+        Err(refusal) => { writeln!(out, "refused {} {}", refusal.number(), refusal.place()) }
+        Ok(total) => {
             writeln!(out, "total {total}")?;
             let m = trains(sheet);
             print_trains(&mut out, &decisions[..m], &delays[..m])

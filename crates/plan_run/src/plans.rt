@@ -22,10 +22,12 @@ fn plan<W: Write>(out: &mut W, sheet: &[u8], lent: Lengths, shown: Shown) -> io:
         decisions,
         delays,
     };
+    let total = answer.unwrap_or(0);
+    write!(out, "plan {} {total}", Answered(answer))?;
     match shown {
-        Shown::Sums => writeln!(out, "plan {} {}", Answered(answer), shown::sums_of(lists)),
+        Shown::Sums => writeln!(out, " {}", shown::sums_of(lists)),
         Shown::Full => {
-            writeln!(out, "plan {}", Answered(answer))?;
+            writeln!(out)?;
             shown::lists(out, sheet, answer, lists)?;
             changes::show(out, &marks::all(), lists.cells)
         }

@@ -94,16 +94,12 @@ fn ask<W: Write>(
         delays,
     };
     let name = call.name();
+    let total = answer.unwrap_or(0);
+    write!(out, "{name} {} {total}", Answered(answer))?;
     match shown {
-        Shown::Sums => writeln!(
-            out,
-            "{name} {} {} {}",
-            Answered(answer),
-            shown::sums_of(lists),
-            sums::of(sheet)
-        ),
+        Shown::Sums => writeln!(out, " {} {}", shown::sums_of(lists), sums::of(sheet)),
         Shown::Full => {
-            writeln!(out, "{name} {}", Answered(answer))?;
+            writeln!(out)?;
             shown::lists(out, sheet, answer, lists)?;
             writeln!(out, "sheet{}", Listed(sheet))?;
             changes::show(out, &before, lists.cells)

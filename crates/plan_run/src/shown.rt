@@ -57,7 +57,7 @@ fn trains(sheet: &[u8]) -> usize
 pub fn lists<W: Write>(out: &mut W, sheet: &[u8], answer: Answer, lists: Lists) -> io::Result<()> {
     writeln!(out, "decisions{}", Listed(lists.decisions))?;
     writeln!(out, "delays{}", Listed(lists.delays))?;
-    if let Answer::Accepted(_) = answer {
+    if answer.is_ok() {
         printed::rows(out, lists.cells, trains(sheet))?;
     }
     Ok(())

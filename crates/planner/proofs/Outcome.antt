@@ -9,14 +9,13 @@ use Prim.Native.Nat.{ℕ, ◌≤◌}
 use lib.ListN.{length, replicate}
 use Rattle.std.specs.Prelude.{if◌then◌else◌}
 use Rattle.lists.specs.Run.{padded}
-use Rattle.lists.proofs.Choice.{true_or_false, if_yes, if_no}
+use Rattle.std.proofs.lemmas.Bool.{cases_Bool, cond-true, cond-false}
 use Rattle.lists.proofs.Run.{padded_same}
 use Rattle.bits.proofs.Puts.{put_unique}
 use Rattle.terms.specs.declared.Refusal.{Refusal}
-use Rattle.terms.specs.declared.Verdict.{Verdict}
-use Rattle.terms.specs.declared.Verdict.TheVariants.{Fine, Refused}
-use Rattle.terms.specs.declared.Answer.{Answer}
-use Rattle.terms.specs.declared.Answer.TheVariants.{Accepted, Refused as AnswerRefused}
+use Rattle.std.specs.Prelude.{Ok, Err}
+use Rattle.terms.specs.Verdict.{Verdict, Fine}
+use Rattle.terms.specs.Answer.{Answer}
 use Rattle.terms.specs.Refusal.{blanks_of}
 use Rattle.terms.specs.Verdict.{number_in, place_in}
 use Rattle.terms.specs.Answer.{answer_number, answer_place, answer_carries, answer_of}
@@ -46,7 +45,7 @@ use Rattle.planner.proofs.Refusals.{accepted_of_plan, accepted_of_report}
 -- ---- what a call answers
 
 module _ (checks : Verdict) (Stored : ℕ → Type 0) (before after : Buffers) where
-  pub outcome_accepted : {n : ℕ} → Fine ≡ checks → Stored n → Outcome checks Stored before after (Accepted n)
+  pub outcome_accepted : {n : ℕ} → Fine ≡ checks → Stored n → Outcome checks Stored before after (Ok n)
   outcome_accepted {n} e stored =
       record {
         answer = ap (λ (v : Verdict). answer_of v n) e;
@@ -54,14 +53,14 @@ module _ (checks : Verdict) (Stored : ℕ → Type 0) (before after : Buffers) w
         refused = λ r f. refused_not_fine (sym (e ∙ f));
       }
 
-  pub outcome_refused : (r : Refusal) → Refused r ≡ checks → RefusedFor r before after
-      → Outcome checks Stored before after (AnswerRefused r)
+  pub outcome_refused : (r : Refusal) → Err r ≡ checks → RefusedFor r before after
+      → Outcome checks Stored before after (Err r)
   outcome_refused r e left =
       record {
         answer = ap (λ (v : Verdict). answer_of v 0) e;
         accepted = λ f. refused_not_fine (e ∙ f);
         refused = λ q f.
-            let both : Refused r ≡ Refused q = e ∙ f in
+            let both : Err r ≡ Err q = e ∙ f in
             let same : r ≡ q = cc in
             subst (λ (x : Refusal). RefusedFor x before after) same left;
       }
@@ -74,7 +73,7 @@ module _ (checks : Verdict) (Stored : ℕ → Type 0) (before after : Buffers) w
     pub outcome_place : answer_place a ≡ place_in checks
     outcome_place = ap answer_place h.answer ∙ answer_place_lem checks _
 
-    pub refused_carries : (r : Refusal) → checks ≡ Refused r → answer_carries a ≡ 0
+    pub refused_carries : (r : Refusal) → checks ≡ Err r → answer_carries a ≡ 0
     refused_carries r e = ap answer_carries (h.answer ∙ ap (λ (v : Verdict). answer_of v (answer_carries a)) e)
 
 -- with every row worked it is a plan
@@ -102,19 +101,19 @@ refused_for r before after right decisions delays cells =
     record {
       blanked = λ blanks. elim right [
         | inl long ↦ record {
-          decisions = decisions ∙ if_yes _ _ blanks ∙ ap (λ (n : ℕ). replicate n 2) long.decisions;
-          delays = delays ∙ if_yes _ _ blanks ∙ ap (λ (n : ℕ). replicate n 0) long.delays;
+          decisions = decisions ∙ cond-true _ _ _ blanks ∙ ap (λ (n : ℕ). replicate n 2) long.decisions;
+          delays = delays ∙ cond-true _ _ _ blanks ∙ ap (λ (n : ℕ). replicate n 0) long.delays;
           cells = cells;
         }
         | inr not ↦ absurd (true≢false (sym blanks ∙ not))
       ];
       kept = λ not.
-          buffers_one after before cells (decisions ∙ if_no _ _ not) (delays ∙ if_no _ _ not);
+          buffers_one after before cells (decisions ∙ cond-false _ _ _ not) (delays ∙ cond-false _ _ _ not);
     }
 
 -- a refusal of any kind leaves the cells
 pub refused_cells : (r : Refusal) (before after : Buffers) → RefusedFor r before after → after.cells ≡ before.cells
-refused_cells r before after left = elim (true_or_false (blanks_of r)) [
+refused_cells r before after left = elim (cases_Bool (blanks_of r)) [
   | inl blanks ↦ (left.blanked blanks).cells
   | inr keeps ↦ ap (λ (b : Buffers). b.cells) (left.kept keeps)
 ]
@@ -155,7 +154,7 @@ module _ (before after after' : Buffers) where
       )
 
   refused_for_one : (r : Refusal) → RefusedFor r before after → RefusedFor r before after' → after ≡ after'
-  refused_for_one r P Q = elim (true_or_false (blanks_of r)) [
+  refused_for_one r P Q = elim (cases_Bool (blanks_of r)) [
     | inl blanks ↦
         let p = P.blanked blanks in
         let q = Q.blanked blanks in

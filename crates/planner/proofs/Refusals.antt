@@ -10,8 +10,8 @@ use borrow.Author.Rules.{rules}
 use Rattle.terms.specs.declared.ListFault.TheVariants.{BufferLength}
 use Rattle.terms.specs.declared.Refusal.{Refusal}
 use Rattle.terms.specs.declared.Refusal.TheVariants.{OfList}
-use Rattle.terms.specs.declared.Verdict.{Verdict}
-use Rattle.terms.specs.declared.Verdict.TheVariants.{Fine, Refused}
+use Rattle.std.specs.Prelude.{Err}
+use Rattle.terms.specs.Verdict.{Verdict, Fine}
 use Rattle.terms.specs.Refusal.{blanks_of}
 use Rattle.terms.specs.Verdict.{◌and_then◌}
 use Rattle.terms.proofs.Checks.{fine_or_refused, then_stop, then_pass, then_fine, fine_then}
@@ -44,7 +44,7 @@ fine_of_right : (b : Buffers) → RightLengths b → buffers_verdict b ≡ Fine
 unfolding buffer_lengths_verdict
 fine_of_right b h = fine_of_passed _ (search rules)
 
-pub buffers_refusal : (b : Buffers) (r : Refusal) → buffers_verdict b ≡ Refused r → OfList BufferLength ≡ r
+pub buffers_refusal : (b : Buffers) (r : Refusal) → buffers_verdict b ≡ Err r → OfList BufferLength ≡ r
 unfolding buffer_lengths_verdict
 buffers_refusal b = only_of _ _ (inr refl, (inr refl, (inr refl, tt)))
 
@@ -55,16 +55,16 @@ module _ (b : Buffers) (w : Verdict) where
   checks_right right = sym (then_pass _ w _ (fine_of_right b right) refl)
 
   -- with others they are refused for their length
-  pub checks_wrong : (r : Refusal) → buffers_verdict b ≡ Refused r
-      → buffers_verdict b and_then w ≡ Refused (OfList BufferLength)
+  pub checks_wrong : (r : Refusal) → buffers_verdict b ≡ Err r
+      → buffers_verdict b and_then w ≡ Err (OfList BufferLength)
   checks_wrong r e =
-      sym (then_stop (buffers_verdict b) w refl (sym e)) ∙ ap Refused (sym (buffers_refusal b r e))
+      sym (then_stop (buffers_verdict b) w refl (sym e)) ∙ ap Err (sym (buffers_refusal b r e))
 
   pub checks_fine : buffers_verdict b and_then w ≡ Fine → RightLengths b × (w ≡ Fine)
   checks_fine fine = let both = then_fine _ w fine in (right_of_fine b both.0, both.1)
 
   -- the buffers have the right lengths, or the refusal writes nothing
-  pub right_or_unwritten : (r : Refusal) → buffers_verdict b and_then w ≡ Refused r
+  pub right_or_unwritten : (r : Refusal) → buffers_verdict b and_then w ≡ Err r
       → RightLengths b ⊎ (blanks_of r ≡ false)
   right_or_unwritten r e = elim (fine_or_refused (buffers_verdict b)) [
     | inl fine ↦ inl (right_of_fine b fine)
@@ -96,7 +96,7 @@ module _ (s : List ℕ) (i v : ℕ) (cells : List ℕ) where
   pub fine_of_facts : AcceptedSheet s → Reportable (trains_of s) i v cells → after_lengths_verdict ≡ Fine
   fine_of_facts ok h = fine_then (fine_of_accepted s ok) (fine_of_reportable _ i v cells h)
 
-  pub after_lengths_blanks : (r : Refusal) → after_lengths_verdict ≡ Refused r → blanks_of r ≡ true
+  pub after_lengths_blanks : (r : Refusal) → after_lengths_verdict ≡ Err r → blanks_of r ≡ true
   after_lengths_blanks =
       only_then (λ (r : Refusal). blanks_of r ≡ true) (sheet_verdict s) _ (sheet_refusal_blanks s)
       (own_refusal_blanks (trains_of s) i v cells)

@@ -1,12 +1,7 @@
--- A source delay replaced: an accepted sheet has room for it, and the list of times with the new delay is that of the
+-- A source delay replaced: an accepted sheet has room for it, and the times with the new delay are those of the
 -- sheet as it then stands, so that what is settled on it is settled for that sheet's line.
 -- Assumes nothing.
-use mathlib.Core.Path.{◌≡◌, ◌∙◌}
-use mathlib.Core.List.{List}
-use Prim.Native.Nat.{ℕ, ◌+◌, ◌-◌, ◌*◌, ◌≤◌}
-use native.Mathlib.Omega.{arith}
-use lib.Dec.{lit≤}
-use lib.ListN.{length, set}
+use Rattle.std.proofs.Common.{◌≡◌, ◌∙◌, List, ℕ, ◌+◌, ◌-◌, ◌*◌, ◌≤◌, arith, lit≤, length}
 use Rattle.line.specs.Cells.{book_of}
 use Rattle.sheet.specs.Format.{trains_of}
 use Rattle.sheet.specs.Numbers.{numbers_of}
@@ -14,7 +9,8 @@ use Rattle.sheet.specs.Accepted.{InRange, AcceptedSheet, SameNumbers, with_delay
 use Rattle.sheet.proofs.Lengths.{layout, bytes_bits, train_within}
 use Rattle.sheet.proofs.Meaning.{same_sym}
 use Rattle.sheet.proofs.Amend.{replaced_numbers, replaced_accepted}
-use Rattle.cells.specs.Timing.{place_of_source}
+use Rattle.cells.specs.declared.timing.Timing.{Timing}
+use Rattle.cells.specs.Timing.{source_in, with_source}
 use Rattle.cells.specs.Book.{book_in, BookGiven}
 use Rattle.prepare.specs.LineOf.{line_of}
 use Rattle.prepare.specs.Prepared.{TimingOf, SumsOf}
@@ -37,7 +33,8 @@ module _ (s : List ℕ) (i v : ℕ) (ok : AcceptedSheet s) (least : 1 ≤ i) (mo
       }
 
   -- the sheet is t then; m, times and sums are those of s
-  module _ (t : List ℕ) (put : DelayReplaced s i v t) (m : ℕ) (timing sums : List ℕ) (trains : m ≡ trains_of s)
+  module _ (t : List ℕ) (put : DelayReplaced s i v t) (m : ℕ) (timing timed : Timing) (sums : List ℕ)
+      (replaced : timed ≡ with_source timing i v) (here : source_in timed i ≡ v) (trains : m ≡ trains_of s)
       (times : TimingOf (numbers_of s) timing) (leavers : SumsOf (numbers_of s) sums) where
     same : SameNumbers (with_delay (numbers_of s) i v) (numbers_of t)
     same = same_sym _ _ (replaced_numbers s t i v ok least most put)
@@ -45,19 +42,18 @@ module _ (s : List ℕ) (i v : ℕ) (ok : AcceptedSheet s) (least : 1 ≤ i) (mo
     in_range : InRange (numbers_of t)
     in_range = (replaced_accepted s t i v ok least most put small).numbers
 
-    new_times : TimingOf (numbers_of t) (set timing (place_of_source i) v)
+    new_times : TimingOf (numbers_of t) timed
     new_times =
-        timing_of_same _ _ same _
-        (timing_with_delay (numbers_of s) i v timing least most ok.numbers.trains_most times)
+        timing_of_same _ _ same _ (timing_with_delay (numbers_of s) i v timing timed least replaced here times)
 
     same_leavers : SumsOf (numbers_of t) sums
     same_leavers = sums_of_same _ _ same sums (sums_with_delay (numbers_of s) i v sums leavers)
 
-    pub replaced_given : BookGiven m (set timing (place_of_source i) v) sums
+    pub replaced_given : BookGiven m timed sums
     replaced_given = taken_given (numbers_of t) m _ sums in_range (trains ∙ same.trains) new_times same_leavers
 
     pub replaced_settled : (before after : Buffers) (n : ℕ)
-        → Settled (book_in m (set timing (place_of_source i) v) sums) i before after n
+        → Settled (book_in m timed sums) i before after n
         → Settled (book_of (line_of (numbers_of t))) i before after n
     replaced_settled =
         settled_for (numbers_of t) m _ sums in_range (trains ∙ same.trains) new_times same_leavers i

@@ -11,7 +11,8 @@ use native.Mathlib.Omega.{arith}
 use Rattle.terms.specs.declared.ReportFault.TheVariants.{NoSuchTrain, NewDelay, CellOverLimit}
 use Rattle.terms.specs.declared.Refusal.{Refusal}
 use Rattle.terms.specs.declared.Refusal.TheVariants.{OfReport}
-use Rattle.terms.specs.declared.Verdict.TheVariants.{Fine, Refused}
+use Rattle.std.specs.Prelude.{Err}
+use Rattle.terms.specs.Verdict.{Fine}
 use Rattle.terms.specs.Refusal.{train, blanks_of}
 use Rattle.terms.proofs.Checks.{then_stop, then_pass, then_fine, fine_then, hit, miss, passed_of_fine, fine_of_passed}
 use Rattle.terms.proofs.Refusing.{only_of, only_then}
@@ -34,22 +35,22 @@ module _ (m i v : ℕ) (cells : List ℕ) where
 
   -- ---- each refusal, where the checks before it pass
 
-  pub own_no_train : (i < 1) ⊎ (m < i) → own_verdict m i v cells ≡ Refused (OfReport NoSuchTrain)
+  pub own_no_train : (i < 1) ⊎ (m < i) → own_verdict m i v cells ≡ Err (OfReport NoSuchTrain)
   unfolding own_verdict report_checks
   own_no_train (inl l) = sym (then_stop _ _ refl (hit _ _ _ _ l))
   own_no_train (inr l) = sym (then_stop _ _ refl (miss _ _ _ _ _ (omega arith) (hit _ _ _ _ l)))
 
-  pub own_too_late : 1 ≤ i → i ≤ m → 1440 < v → own_verdict m i v cells ≡ Refused (OfReport (NewDelay (train i)))
+  pub own_too_late : 1 ≤ i → i ≤ m → 1440 < v → own_verdict m i v cells ≡ Err (OfReport (NewDelay (train i)))
   unfolding own_verdict report_checks
   own_too_late a b late = sym (then_stop _ _ refl (miss _ _ _ _ _ a (miss _ _ _ _ _ b (hit _ _ _ _ late))))
 
   pub own_over : 1 ≤ i → i ≤ m → v ≤ 1440 → (k : ℕ) → FirstOver m i cells k
-      → own_verdict m i v cells ≡ Refused (OfReport (CellOverLimit (train k)))
+      → own_verdict m i v cells ≡ Err (OfReport (CellOverLimit (train k)))
   unfolding own_verdict report_checks
   own_over a b small k h =
       sym (then_pass _ _ _ (fine_of_passed _ (a, (b, (small, tt)))) (sym (later_over m i cells k h)))
 
-  pub own_refusal_blanks : (r : Refusal) → own_verdict m i v cells ≡ Refused r → blanks_of r ≡ true
+  pub own_refusal_blanks : (r : Refusal) → own_verdict m i v cells ≡ Err r → blanks_of r ≡ true
   unfolding own_verdict report_checks
   own_refusal_blanks =
       let Blanks : Refusal → Type 0 = λ r. blanks_of r ≡ true in

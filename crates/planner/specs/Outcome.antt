@@ -5,9 +5,9 @@
 -- Assumes nothing.
 use Rattle.std.specs.Prelude.{ℕ, ◌≡◌}
 use Rattle.terms.specs.declared.Refusal.{Refusal}
-use Rattle.terms.specs.declared.Verdict.{Verdict}
-use Rattle.terms.specs.declared.Verdict.TheVariants.{Fine, Refused}
-use Rattle.terms.specs.declared.Answer.{Answer}
+use Rattle.std.specs.Prelude.{Err}
+use Rattle.terms.specs.Verdict.{Verdict, Fine}
+use Rattle.terms.specs.Answer.{Answer}
 use Rattle.terms.specs.Answer.{answer_carries, answer_of}
 use Rattle.planner.specs.Buffers.{Buffers, RefusedFor}
 
@@ -15,4 +15,4 @@ pub record Outcome (checks : Verdict) (Stored : ℕ → Type 0) (before after : 
   -- a total where every check passes, else the refusal of the first that fails
   pub answer : a ≡ answer_of checks (answer_carries a)
   pub accepted : checks ≡ Fine → Stored (answer_carries a)
-  pub refused : (r : Refusal) → checks ≡ Refused r → RefusedFor r before after
+  pub refused : (r : Refusal) → checks ≡ Err r → RefusedFor r before after

@@ -6,9 +6,9 @@
 -- Assumes nothing.
 use Rattle.std.specs.Prelude.{ℕ, ◌≡◌, List}
 use Rattle.terms.specs.declared.Refusal.{Refusal}
-use Rattle.terms.specs.declared.Verdict.{Verdict}
-use Rattle.terms.specs.declared.Verdict.TheVariants.{Refused}
-use Rattle.terms.specs.declared.Answer.{Answer}
+use Rattle.std.specs.Prelude.{Err}
+use Rattle.terms.specs.Verdict.{Verdict}
+use Rattle.terms.specs.Answer.{Answer}
 use Rattle.terms.specs.Verdict.{◌and_then◌}
 use Rattle.line.specs.Cells.{book_of}
 use Rattle.sheet.specs.Format.{trains_of}
@@ -35,4 +35,4 @@ pub record Reported (s : List ℕ) (i v : ℕ) (before : Buffers) (t : List ℕ)
 pub record Report (s : List ℕ) (i v : ℕ) (before : Buffers) (t : List ℕ) (after : Buffers) (a : Answer) : Type 0 where
   pub outcome : Outcome (report_verdict s i v before) (Reported s i v before t after) before after a
   -- A refused report leaves the sheet unchanged.
-  pub kept : (r : Refusal) → report_verdict s i v before ≡ Refused r → t ≡ s
+  pub kept : (r : Refusal) → report_verdict s i v before ≡ Err r → t ≡ s

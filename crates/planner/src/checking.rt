@@ -1,52 +1,54 @@
 // The checks of plan and of report, in their order. Sheet and cells are lent to be read, so that
 // neither is written before the last check.
 ghost use Rattle.std.specs.Prelude.{◌≡◌, ◌≤◌, length};
-ghost use Rattle.terms.specs.Verdict.{verdict_of, ◌and_then◌};
+ghost use Rattle.terms.specs.Verdict.{Fine, verdict_of, ◌and_then◌};
 ghost use Rattle.sheet.specs.Format.{trains_of};
 ghost use Rattle.sheet.specs.Checks.{sheet_verdict};
 ghost use Rattle.cells.specs.Place.{cell_count};
 ghost use Rattle.prepare.specs.Prepared.{Prepared};
 ghost use Rattle.planner.specs.Buffers.{buffer_lengths_verdict};
-ghost use Rattle.cells.specs.Sums.{sums_count};
-ghost use Rattle.cells.specs.Timing.{timing_count};
 ghost use Rattle.planner.specs.ReportChecks.{report_checks, own_verdict};
 
 use cells::limits::check_rows_after;
 use cells::place::CELLS;
+use cells::sums::SUMS;
+use cells::timing::Timing;
 use prepare::prepare;
 use reader::Reading;
 use terms::{ListFault, Refusal, ReportFault, Train, Verdict};
 
 // The lengths of the lent buffers.
+#[tactic(auto, unfolding(crate::specs::Buffers::buffer_lengths_verdict, terms::specs::Verdict::verdict_of, lists::specs::Choice::if_same))]
 pub fn check_buffers(cells: usize, decisions: usize, delays: usize) -> Verdict
     ensures { result ≡ buffer_lengths_verdict cells decisions delays }
 {
     if cells != CELLS {
-        return Verdict::Refused(Refusal::OfList(ListFault::BufferLength));
+        return Err(Refusal::OfList(ListFault::BufferLength));
     }
     if decisions != 64 {
-        return Verdict::Refused(Refusal::OfList(ListFault::BufferLength));
+        return Err(Refusal::OfList(ListFault::BufferLength));
     }
     if delays != 64 {
-        return Verdict::Refused(Refusal::OfList(ListFault::BufferLength));
+        return Err(Refusal::OfList(ListFault::BufferLength));
     }
-    Verdict::Fine
+    Ok(())
 }
 
 // The train and its new delay.
+#[tactic(auto, unfolding(crate::specs::ReportChecks::report_checks, terms::specs::Verdict::verdict_of, lists::specs::Choice::if_below))]
 fn check_reported(m: u32, train: Train, delay: u32) -> Verdict
     ensures { result ≡ verdict_of (report_checks m train.0 delay) }
 {
     if train.0 < 1 {
-        return Verdict::Refused(Refusal::OfReport(ReportFault::NoSuchTrain));
+        return Err(Refusal::OfReport(ReportFault::NoSuchTrain));
     }
     if m < train.0 {
-        return Verdict::Refused(Refusal::OfReport(ReportFault::NoSuchTrain));
+        return Err(Refusal::OfReport(ReportFault::NoSuchTrain));
     }
     if 1440 < delay {
-        return Verdict::Refused(Refusal::OfReport(ReportFault::NewDelay(train)));
+        return Err(Refusal::OfReport(ReportFault::NewDelay(train)));
     }
-    Verdict::Fine
+    Ok(())
 }
 
 // The train and its new delay, then the rows after it.
@@ -54,10 +56,7 @@ fn check_own(m: u32, train: Train, delay: u32, cells: &[u64]) -> Verdict
     requires { (m ≤ 64) × (length cells.now ≡ cell_count) }
     ensures { result ≡ own_verdict m train.0 delay cells.now }
 {
-    let numbers = check_reported(m, train, delay);
-    if let Verdict::Refused(_) = numbers {
-        return numbers;
-    }
+    check_reported(m, train, delay)?;
     check_rows_after(cells, m, train)
 }
 
@@ -69,23 +68,17 @@ pub fn check_report(
     train: Train,
     delay: u32,
     cells: &[u64],
-    timing: &mut [u32],
-    sums: &mut [u32],
+    timing: &mut Timing,
+    sums: &mut [u32; SUMS],
 ) -> Reading
-    requires { (earlier ≡ Verdict.Fine → length cells.now ≡ cell_count)
-        × (length timing.old ≡ timing_count) × (length sums.old ≡ sums_count) }
+    requires { earlier ≡ Fine → length cells.now ≡ cell_count }
     ensures { Prepared
         (earlier and_then sheet_verdict sheet.now
         and_then own_verdict (trains_of sheet.now) train.0 delay
         cells.now)
         sheet.now timing.new sums.new result }
 {
-    let checked = prepare(earlier, sheet, timing, sums);
-    if let Reading::Accepted(m, _) = checked {
-        let own = check_own(m, train, delay, cells);
-        if let Verdict::Refused(refusal) = own {
-            return Reading::Refused(refusal);
-        }
-    }
-    checked
+    let head = prepare(earlier, sheet, timing, sums)?;
+    check_own(head.trains, train, delay, cells)?;
+    Ok(head)
 }

@@ -6,11 +6,11 @@
 mod checking;
 mod settling;
 
-ghost use Rattle.std.specs.Prelude.{◌≡◌, ◌≤◌, length, replicate, set};
+ghost use Rattle.std.specs.Prelude.{◌≡◌, ◌≤◌, length, replicate};
 ghost use Rattle.std.specs.Prelude.{if◌then◌else◌};
 ghost use Rattle.terms.specs.Refusal.{blanks_of};
 ghost use Rattle.sheet.specs.Accepted.{DelayReplaced};
-ghost use Rattle.cells.specs.Timing.{timing_count, place_of_source};
+ghost use Rattle.cells.specs.Timing.{source_in, with_source};
 ghost use Rattle.planner.specs.Buffers.{buffers};
 ghost use Rattle.planner.specs.Plan.{Plan};
 ghost use Rattle.planner.specs.Report.{Report};
@@ -20,10 +20,8 @@ use crate::checking::{check_buffers, check_report};
 use crate::settling::settle;
 use bits::put;
 use cells::sums::SUMS;
-use cells::timing::{TIMING, set_source};
-use lists::{fill_u8, fill_u32};
+use cells::timing::Timing;
 use prepare::prepare;
-use reader::Reading;
 use sheet::format::Column;
 use terms::{Answer, Refusal, Train};
 
@@ -32,7 +30,7 @@ const BLANK: u8 = 2;
 
 // What a refusal leaves: blanks, or nothing written where the refusal is for a length.
 fn refuse(refusal: Refusal, decisions: &mut [u8], delays: &mut [u32]) -> Answer
-    ensures { (result ≡ Answer.Refused refusal)
+    ensures { (result ≡ Err refusal)
         × (decisions.new ≡
         (if blanks_of refusal then replicate (length decisions.old) 2
         else decisions.old))
@@ -41,10 +39,10 @@ fn refuse(refusal: Refusal, decisions: &mut [u8], delays: &mut [u32]) -> Answer
         else delays.old)) }
 {
     if refusal.blanks() {
-        fill_u8(decisions, BLANK);
-        fill_u32(delays, 0);
+        decisions.fill(BLANK);
+        delays.fill(0);
     }
-    Answer::Refused(refusal)
+    Err(refusal)
 }
 
 // Plans the line of a sheet: cells, decisions and delays into the lent buffers, the total as the
@@ -57,13 +55,13 @@ pub fn plan(sheet: &[u8], cells: &mut [u64], decisions: &mut [u8], delays: &mut 
         result }
 {
     let lengths = check_buffers(cells.len(), decisions.len(), delays.len());
-    let mut timing = [0u32; TIMING];
+    let mut timing = Timing::zeros();
     let mut sums = [0u32; SUMS];
-    let checked = prepare(lengths, sheet, &mut timing, &mut sums);
-    match checked {
-        Reading::Refused(refusal) => refuse(refusal, decisions, delays),
-        Reading::Accepted(m, _) => {
-            Answer::Accepted(settle(m, Train(m), cells, decisions, delays, &timing, &sums))
+    match prepare(lengths, sheet, &mut timing, &mut sums) {
+        Err(refusal) => refuse(refusal, decisions, delays),
+        Ok(head) => {
+            let m = head.trains;
+            Ok(settle(m, Train(m), cells, decisions, delays, &timing, &sums))
         }
     }
 }
@@ -79,14 +77,14 @@ fn put_delay(sheet: &mut [u8], train: Train, delay: u32)
 }
 
 // Sheet and times take the train's new source delay.
-fn replace_delay(sheet: &mut [u8], timing: &mut [u32], train: Train, delay: u32)
-    requires { DelayRoom sheet.old train.0 delay × (train.0 ≤ 64)
-        × (length timing.old ≡ timing_count) }
-    ensures { DelayReplaced sheet.old train.0 delay sheet.new
-        × (timing.new ≡ set timing.old (place_of_source train.0) delay) }
+fn replace_delay(sheet: &mut [u8], timing: &mut Timing, train: Train, delay: u32)
+    requires { DelayRoom sheet.old train.0 delay × (train.0 ≤ 64) }
+    ensures sheet { DelayReplaced sheet.old train.0 delay sheet.new }
+    ensures times { timing.new ≡ with_source timing.old train.0 delay }
+    ensures here { source_in timing.new train.0 ≡ delay }
 {
     put_delay(sheet, train, delay);
-    set_source(timing, train, delay);
+    timing.set_source(train, delay);
 }
 
 // Takes a new source delay of one train: puts it into the sheet, and works anew the rows of that
@@ -108,14 +106,14 @@ pub fn report(
         result }
 {
     let lengths = check_buffers(cells.len(), decisions.len(), delays.len());
-    let mut timing = [0u32; TIMING];
+    let mut timing = Timing::zeros();
     let mut sums = [0u32; SUMS];
-    let checked = check_report(lengths, sheet, train, delay, cells, &mut timing, &mut sums);
-    match checked {
-        Reading::Refused(refusal) => refuse(refusal, decisions, delays),
-        Reading::Accepted(m, _) => {
+    match check_report(lengths, sheet, train, delay, cells, &mut timing, &mut sums) {
+        Err(refusal) => refuse(refusal, decisions, delays),
+        Ok(head) => {
             replace_delay(sheet, &mut timing, train, delay);
-            Answer::Accepted(settle(m, train, cells, decisions, delays, &timing, &sums))
+            let m = head.trains;
+            Ok(settle(m, train, cells, decisions, delays, &timing, &sums))
         }
     }
 }

@@ -5,9 +5,11 @@ ghost use Rattle.planner.specs.Buffers.{buffers};
 ghost use Rattle.planner.specs.Settled.{Settled};
 ghost use Rattle.planner.specs.Workable.{Workable};
 
-use cells::costs::COSTS;
+use cells::book::Book;
+use cells::costs::Costs;
 use cells::place::cell_at;
-use cells::sums::boarders;
+use cells::sums::SUMS;
+use cells::timing::Timing;
 use rows::work_rows;
 use terms::Train;
 use walk::follow;
@@ -20,8 +22,8 @@ pub fn settle(
     cells: &mut [u64],
     decisions: &mut [u8],
     delays: &mut [u32],
-    timing: &[u32],
-    sums: &[u32],
+    timing: &Timing,
+    sums: &[u32; SUMS],
 ) -> u64
     requires { Workable m last.0 (buffers cells.old decisions.old delays.old)
         × BookGiven m timing.now sums.now }
@@ -30,12 +32,9 @@ pub fn settle(
         (buffers cells.new decisions.new delays.new)
         result }
 {
-    let mut boarding = [0u64; 64];
-    boarders(&mut boarding, sums, m);
-    let mut costs = [0u64; COSTS];
-    work_rows(cells, &mut costs, m, last, timing, sums, &boarding);
-    follow(
-        decisions, delays, &mut costs, cells, m, timing, sums, &boarding,
-    );
+    let book = Book::new(m, timing, sums);
+    let mut costs = Costs::zeros();
+    work_rows(cells, &mut costs, &book, last);
+    follow(decisions, delays, &mut costs, cells, &book);
     cell_at(cells, m, Train(1), Train(1).leaves())
 }

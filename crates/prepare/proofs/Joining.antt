@@ -1,11 +1,7 @@
 -- The lists that hold a line's times and sums are what cells are worked from: their numbers are in range, and the book
 -- that they make is alike to that of the line.
 -- Assumes nothing.
-use mathlib.Core.Path.{◌≡◌, refl, ap, ap₂, sym, ◌∙◌}
-use mathlib.Core.List.{List}
-use Prim.Native.Nat.{ℕ, ◌+◌, ◌-◌, ◌≤◌, ◌<◌}
-use native.Mathlib.Nat.{le_trans, le_of_eq}
-use native.Mathlib.Omega.{arith}
+use Rattle.std.proofs.Common.{◌≡◌, refl, ap, ap₂, sym, ◌∙◌, List, ℕ, ◌+◌, ◌-◌, ◌≤◌, ◌<◌, le_trans, le_of_eq, arith}
 use Rattle.line.specs.Line.{line_from}
 use Rattle.line.specs.Cells.{leaving, book_of}
 use Rattle.line.specs.Alike.{BooksAlike}
@@ -15,13 +11,14 @@ use Rattle.line.proofs.Passengers.{leaving_over, aboard_leaving}
 use Rattle.line.proofs.Totals.{range_of_line}
 use Rattle.sheet.specs.Numbers.{Numbers}
 use Rattle.sheet.specs.Accepted.{InRange}
+use Rattle.cells.specs.declared.timing.Timing.{Timing}
 use Rattle.cells.specs.Sums.{leaving_in, boarded_in, aboard_in, SumsGiven}
 use Rattle.cells.specs.Book.{book_in, BookGiven}
 use Rattle.prepare.specs.LineOf.{line_of}
 use Rattle.prepare.specs.Prepared.{TimingOf, SumsOf}
 use Rattle.prepare.proofs.Lines.{line_in_range}
 
-module _ (N : Numbers) (range : InRange N) (timing sums : List ℕ) (times : TimingOf N timing)
+module _ (N : Numbers) (range : InRange N) (timing : Timing) (sums : List ℕ) (times : TimingOf N timing)
     (leavers : SumsOf N sums) where
   -- those who leave, by the line
   leaving_same : (k l : ℕ) → 1 ≤ k → k ≤ l → l ≤ N.trains → leaving_in sums k l ≡ leaving (line_of N) k l
@@ -44,7 +41,6 @@ module _ (N : Numbers) (range : InRange N) (timing sums : List ℕ) (times : Tim
   sums_given =
       record {
         trains = range.trains_most;
-        long = leavers.long;
         most = boarded_le;
         falls = λ k l t a b c d.
             omega (
@@ -76,7 +72,6 @@ module _ (N : Numbers) (range : InRange N) (timing sums : List ℕ) (times : Tim
         some = range.trains_least;
         times = record {
           trains = range.trains_most;
-          long = times.long;
           source = λ i a b. le_trans (le_of_eq (times.source i a b)) (range.train i a b).delay;
           period = λ s a b. le_trans (le_of_eq (times.period s a b)) range.period_most;
         };

@@ -1,9 +1,7 @@
 -- The line of a sheet's numbers: numbers in range give a line in range, and the same numbers from a train on give lines
 -- alike from there, whatever the functions say past the last train and the last field.
 -- Assumes nothing.
-use mathlib.Core.Path.{◌≡◌, ap, sym, subst, ◌∙◌}
-use Prim.Native.Nat.{ℕ, ◌+◌, ◌≤◌, ◌<◌}
-use native.Mathlib.Omega.{arith}
+use Rattle.std.proofs.Common.{◌≡◌, ap, sym, subst, ◌∙◌, ℕ, ◌+◌, ◌≤◌, ◌<◌, arith}
 use Rattle.lists.proofs.Choice.{same_no}
 use Rattle.line.specs.Line.{line_from}
 use Rattle.line.specs.Alike.{LinesAlike}

@@ -2,23 +2,17 @@
 --   ColumnTo n l sums v k   the columns before l stand there, and in that of l the sums of stations k + 1 to l, of
 --                           which v was stored last; n are the passengers by pair
 -- Assumes nothing.
-use mathlib.Core.Path.{◌≡◌, sym, ◌∙◌}
-use mathlib.Core.List.{List}
-use mathlib.Core.Logic.{inl, inr}
-use Prim.Native.Nat.{ℕ, ◌+◌, ◌-◌, ◌*◌, ◌≤◌, ◌<◌}
-use native.Mathlib.Nat.{le_refl}
-use native.Mathlib.Omega.{arith}
-use lib.ListN.{set, length-set}
-use lib.Seq.{get_or-set_same, get_or-set_other}
-use Rattle.lists.proofs.Order.{same_or_not}
+use Rattle.std.proofs.Common.{◌≡◌, sym, ◌∙◌, List, inl, inr, ℕ, ◌+◌, ◌-◌, ◌*◌, ◌≤◌, ◌<◌, le_refl, arith, length, set, length-set, get_or-set_same, get_or-set_other}
+use Rattle.std.proofs.lemmas.Bool.{cases_eq}
 use Rattle.line.specs.Sum.{sum◌from◌to◌}
 use Rattle.line.proofs.Sums.{sum_over, over_none, over_first}
-use Rattle.cells.specs.Sums.{place_of_sum, leaving_in}
+use Rattle.cells.specs.Sums.{sums_count, place_of_sum, leaving_in}
 use Rattle.cells.proofs.Places.{place_of_sum_one}
 use Rattle.prepare.specs.Prepared.{HoldsSums}
 
 pub record ColumnTo (n : ℕ → ℕ → ℕ) (l : ℕ) (sums : List ℕ) (v k : ℕ) : Type 0 where
   pub most : k ≤ l
+  pub long : length sums ≡ sums_count
   pub before : HoldsSums (l - 1) n sums
   pub last : v ≡ sum (λ i. n i (l + 1)) from (k + 1) to l
   pub small : v ≤ (l - k) * 10000
@@ -26,10 +20,11 @@ pub record ColumnTo (n : ℕ → ℕ → ℕ) (l : ℕ) (sums : List ℕ) (v k :
 
 module _ (n : ℕ → ℕ → ℕ) (l : ℕ) (sums : List ℕ) where
   -- no station of train l is summed yet
-  pub column_start : (k : ℕ) → k ≡ l → HoldsSums (l - 1) n sums → ColumnTo n l sums 0 k
-  column_start k e H =
+  pub column_start : (k : ℕ) → k ≡ l → length sums ≡ sums_count → HoldsSums (l - 1) n sums → ColumnTo n l sums 0 k
+  column_start k e long H =
       record {
         most = omega arith;
+        long = long;
         before = H;
         last = sym (sum_over _ (k + 1) l ∙ over_none (k + 1) (l + 1) _ (omega arith));
         small = omega arith;
@@ -40,8 +35,7 @@ module _ (n : ℕ → ℕ → ℕ) (l : ℕ) (sums : List ℕ) where
   pub column_end : (v k : ℕ) → ColumnTo n l sums v k → k ≡ 0 → HoldsSums l n sums
   column_end v k C e =
       record {
-        long = C.before.long;
-        leaving = λ i t a b c. elim (same_or_not t l) [
+        leaving = λ i t a b c. elim (cases_eq t l) [
           | inl same ↦ rw same (C.summed i (omega arith) (omega arith))
           | inr not ↦ C.before.leaving i t a b (omega arith)
         ];
@@ -76,7 +70,7 @@ module _ (n : ℕ → ℕ → ℕ) (l : ℕ) (sums : List ℕ) (v k p u : ℕ) (
   -- stands in its place
   stored_here : leaving_in after k l ≡ v + u
   unfolding leaving_in after
-  stored_here = rw (sym at) (get_or-set_same sums p (v + u) 0 (omega arith))
+  stored_here = rw (sym at) (get_or-set_same sums p (v + u) 0 (omega (arith, C.long)))
 
   -- so that one station more is summed
   pub column_next : ColumnTo n l (set sums p (v + u)) (v + u) (k - 1)
@@ -85,14 +79,14 @@ module _ (n : ℕ → ℕ → ℕ) (l : ℕ) (sums : List ℕ) (v k p u : ℕ) (
       let back : k - 1 + 1 ≡ k = omega arith in
       record {
         most = omega arith;
+        long = length-set sums p (v + u) ∙ C.long;
         before = record {
-          long = simp length-set C.before.long;
           leaving = λ i t a b c.
               stored_other i t a (omega arith) (omega arith) (λ x y. omega arith) ∙ C.before.leaving i t a b c;
         };
         last = rw back next_sum;
         small = omega arith;
-        summed = λ i a b. elim (same_or_not i k) [
+        summed = λ i a b. elim (cases_eq i k) [
           | inl same ↦ rw same (stored_here ∙ next_sum)
           | inr not ↦
               stored_other i l (omega arith) (omega arith) (le_refl l) (λ x y. not x) ∙ C.summed i (omega arith) b

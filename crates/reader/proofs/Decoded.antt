@@ -6,18 +6,18 @@ use mathlib.Core.Logic.{inl, inr}
 use Prim.Native.Nat.{ℕ}
 use native.Mathlib.Omega.{arith}
 use Rattle.terms.specs.declared.Refusal.{Refusal}
-use Rattle.terms.specs.declared.Verdict.TheVariants.{Fine}
+use Rattle.std.specs.Prelude.{Err}
+use Rattle.terms.specs.Verdict.{Fine}
+use Rattle.reader.specs.Reading.{Reading}
 use Rattle.terms.proofs.Checks.{fine_or_refused, refused_not_fine, then_stop, then_pass, then_fine}
 use Rattle.sheet.specs.Format.{trains_of, period_of, bytes_of}
 use Rattle.sheet.specs.Numbers.{Lists, numbers_of, numbers_in}
 use Rattle.sheet.specs.Checks.{head_verdict, body_verdict, sheet_verdict}
 use Rattle.sheet.specs.Accepted.{Lengths, SameNumbers}
 use Rattle.sheet.proofs.Facts.{headed_of_fine}
-use Rattle.reader.specs.declared.Reading.{Reading}
-use Rattle.reader.specs.declared.Reading.TheVariants.{Refused as ReadRefused}
 use Rattle.reader.specs.Reading.{reading_of}
-use Rattle.reader.specs.Decoded.{Head, ColumnsRead, Decoded}
-use Rattle.reader.proofs.ReadingOf.{reading_refused, refused_verdict}
+use Rattle.reader.specs.Decoded.{HeadRead, ColumnsRead, Decoded}
+use Rattle.terms.proofs.Answers.{answer_refused, refused_answer}
 use Rattle.reader.proofs.Columns.{columns_lengths, columns_numbers, columns_one}
 
 -- ---- for those who call it
@@ -56,13 +56,13 @@ decode_one s before after after' a a' g h = (
 
 module _ (s : List ℕ) (before : Lists) {a : Reading} where
   -- a head that is refused
-  pub decoded_head_refused : {r : Refusal} → a ≡ ReadRefused r
+  pub decoded_head_refused : {r : Refusal} → a ≡ Err r
       → a ≡ reading_of (head_verdict s) (trains_of s) (period_of s) → Decoded s before before a
   unfolding sheet_verdict
   decoded_head_refused p e =
-      let refused = refused_verdict (head_verdict s) _ _ (sym p ∙ e) in
+      let refused = refused_answer (head_verdict s) _ (sym p ∙ e) in
       record {
-        answer = p ∙ reading_refused _ _ _ (then_stop _ _ refl (sym refused));
+        answer = p ∙ answer_refused _ _ (then_stop _ _ refl (sym refused));
         filled = λ fine. refused_not_fine (sym refused ∙ fine);
         kept = λ q r. refl;
       }
@@ -80,7 +80,7 @@ module _ (s : List ℕ) (before : Lists) {a : Reading} where
       }
 
 -- a head that passed has the length that m demands
-pub head_of_fine : (s : List ℕ) (m : ℕ) → head_verdict s ≡ Fine → m ≡ trains_of s → Head s m
+pub head_of_fine : (s : List ℕ) (m : ℕ) → head_verdict s ≡ Fine → m ≡ trains_of s → HeadRead s m
 head_of_fine s m fine e =
     let h = headed_of_fine s fine in
     record {

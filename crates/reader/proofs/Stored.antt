@@ -6,28 +6,30 @@ use Prim.Native.Nat.{ℕ}
 use lib.ListN.{replicate}
 use Rattle.lists.proofs.Fill.{filled_padded}
 use Rattle.terms.specs.declared.Refusal.{Refusal}
-use Rattle.terms.specs.declared.Verdict.{Verdict}
-use Rattle.terms.specs.declared.Verdict.TheVariants.{Refused}
+use Rattle.std.specs.Prelude.{Ok, Err}
+use Rattle.terms.specs.Verdict.{Verdict}
+use Rattle.reader.specs.Reading.{Reading}
 use Rattle.terms.proofs.Checks.{if_fine_lem, if_refused, then_pass}
 use Rattle.sheet.specs.Format.{trains_of, period_of}
 use Rattle.sheet.specs.Numbers.{Lists, lists}
 use Rattle.sheet.specs.Checks.{sheet_verdict}
 use Rattle.sheet.specs.Accepted.{Lengths}
 use Rattle.sheet.proofs.Facts.{fine_of_lengths}
-use Rattle.reader.specs.declared.Reading.{Reading}
-use Rattle.reader.specs.declared.Reading.TheVariants.{Accepted, Refused as ReadRefused}
-use Rattle.reader.specs.Reading.{read_number, read_place, read_trains, read_period, reading_of}
+use Rattle.terms.specs.Answer.{answer_number, answer_place}
+use Rattle.reader.specs.Reading.{read_trains, read_period, reading_of}
 use Rattle.reader.specs.Decoded.{Decoded}
 use Rattle.reader.specs.Read.{read_verdict, Read, ReadTells}
-use Rattle.reader.proofs.ReadingOf.{reading_refused, accepted_fine, refused_verdict, reading_carries}
+use Rattle.terms.specs.declared.Head.{Head}
+use Rattle.terms.proofs.Answers.{answer_refused, accepted_answer, refused_answer, answer_number_lem, answer_place_lem}
+use Rattle.reader.proofs.ReadingOf.{read_trains_lem, read_period_lem}
 use Rattle.reader.proofs.Decoded.{decoded_columns}
 
 -- a refusal changes nothing
-pub read_refused : (s : List ℕ) (before : Lists) {a : Reading} {r : Refusal} → a ≡ ReadRefused r
-    → Refused r ≡ read_verdict s before → Read s before before a
+pub read_refused : (s : List ℕ) (before : Lists) {a : Reading} {r : Refusal} → a ≡ Err r
+    → Err r ≡ read_verdict s before → Read s before before a
 read_refused s before p e =
     record {
-      answer = p ∙ reading_refused _ _ _ e;
+      answer = p ∙ answer_refused _ _ e;
       departures = if_refused _ _ _ e;
       driving = if_refused _ _ _ e;
       delays = if_refused _ _ _ e;
@@ -48,15 +50,15 @@ module _ (s : List ℕ) (before : Lists) (room : Lengths 64 2080 before) where
 
   -- it is refused
   pub read_of_refused : {a : Reading} {r : Refusal} → a ≡ reading_of (sheet_verdict s) (trains_of s) (period_of s)
-      → a ≡ ReadRefused r → Read s before before a
+      → a ≡ Err r → Read s before before a
   read_of_refused e p =
-      read_refused s before p (sym (refused_verdict (sheet_verdict s) _ _ (sym p ∙ e)) ∙ sheet_decides)
+      read_refused s before p (sym (refused_answer (sheet_verdict s) _ (sym p ∙ e)) ∙ sheet_decides)
 
   -- it is accepted, and what was decoded into lists of zeros is copied
-  pub read_of_accepted : {a : Reading} {m T : ℕ} (got after : Lists) → Decoded s zeros got a → a ≡ Accepted m T
+  pub read_of_accepted : {a : Reading} {h : Head} (got after : Lists) → Decoded s zeros got a → a ≡ Ok h
       → after ≡ got → Read s before after a
   read_of_accepted {a} got after h p same =
-      let fine = (accepted_fine (sheet_verdict s) _ _ (sym p ∙ h.answer)).0 in
+      let fine = (accepted_answer (sheet_verdict s) _ (sym p ∙ h.answer)).0 in
       let e = sym fine ∙ sheet_decides in
       let columns = decoded_columns s zeros got a h fine in
       subst (λ (L : Lists). Read s before L a) (sym same)
@@ -72,12 +74,12 @@ module _ (s : List ℕ) (before : Lists) (room : Lengths 64 2080 before) where
 
 pub read_tells : {s : List ℕ} {before after : Lists} {a : Reading} → Read s before after a → ReadTells s before a
 read_tells {s} {before} h =
-    let carries = reading_carries (read_verdict s before) (trains_of s) (period_of s) in
+    let v : Verdict = read_verdict s before in
     record {
-      number = ap read_number h.answer ∙ carries.0;
-      place = ap read_place h.answer ∙ carries.1;
-      trains = ap read_trains h.answer ∙ carries.2;
-      period = ap read_period h.answer ∙ carries.3;
+      number = ap answer_number h.answer ∙ answer_number_lem v _;
+      place = ap answer_place h.answer ∙ answer_place_lem v _;
+      trains = ap read_trains h.answer ∙ read_trains_lem v (trains_of s) (period_of s);
+      period = ap read_period h.answer ∙ read_period_lem v (trains_of s) (period_of s);
     }
 
 -- two outcomes that keep read's promise are equal

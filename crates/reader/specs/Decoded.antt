@@ -1,6 +1,6 @@
 -- What taking a sheet apart needs and leaves. Document 01, "Four operations", read: fields first.
 --   ColumnRoom s c n size        n places of the column c can be read from the sheet s into a list of `size` numbers
---   Head s m                     the sheet s has m trains and the length that m demands
+--   HeadRead s m                 the sheet s has m trains and the length that m demands
 --   Body s m L                   behind such a head, the numbers of the sheet stand in the lists L
 --   ColumnsRead s before after   the lists hold the sheet's columns, fields first, the other places as before
 --   Decoded s before after a     what decode answers for the sheet s, and what it leaves of the lists
@@ -9,14 +9,15 @@ use Rattle.std.specs.Prelude.{ℕ, ◌+◌, ◌*◌, ◌≤◌, ◌<◌, ◌≡�
 use Rattle.lists.specs.Filled.{Filled}
 use Rattle.bits.specs.Field.{Within}
 use Rattle.terms.specs.declared.Refusal.{Refusal}
-use Rattle.terms.specs.declared.Verdict.TheVariants.{Fine, Refused}
+use Rattle.std.specs.Prelude.{Err}
+use Rattle.terms.specs.Verdict.{Fine}
+use Rattle.reader.specs.Reading.{Reading}
 use Rattle.sheet.specs.declared.format.Column.{Column}
 use Rattle.sheet.specs.Format.{trains_of, period_of, departure_column, driving_column, delay_column, passenger_column}
 use Rattle.sheet.specs.Format.{entry, bytes_of, pairs_of}
 use Rattle.sheet.specs.Numbers.{Lists, numbers_of, numbers_in}
 use Rattle.sheet.specs.Checks.{head_verdict, sheet_verdict}
 use Rattle.sheet.specs.Accepted.{Lengths, SameNumbers}
-use Rattle.reader.specs.declared.Reading.{Reading}
 use Rattle.reader.specs.Reading.{reading_of}
 
 -- n places of the column lie in the sheet, and a list of `size` has room for them
@@ -25,7 +26,7 @@ pub record ColumnRoom (s : List ℕ) (c : Column) (n size : ℕ) : Type 0 where
   pub within : (k : ℕ) → k < n → Within s (c.first + c.step * k) c.width
 
 -- the sheet has m trains and the length that m demands
-pub record Head (s : List ℕ) (m : ℕ) : Type 0 where
+pub record HeadRead (s : List ℕ) (m : ℕ) : Type 0 where
   pub trains : m ≡ trains_of s
   pub least : 1 ≤ m
   pub most : m ≤ 64
@@ -33,8 +34,7 @@ pub record Head (s : List ℕ) (m : ℕ) : Type 0 where
 
 -- behind such a head, the numbers of the sheet stand in the lists
 pub record Body (s : List ℕ) (m : ℕ) (L : Lists) : Type 0 where
-  pub head : Head s m
-  pub lengths : Lengths 64 2080 L
+  pub head : HeadRead s m
   pub numbers : SameNumbers (numbers_in m (period_of s) L) (numbers_of s)
 
 -- the fields of the sheet stand first in the lists, and the other places are as before
@@ -49,4 +49,4 @@ pub record ColumnsRead (s : List ℕ) (before after : Lists) : Type 0 where
 pub record Decoded (s : List ℕ) (before after : Lists) (a : Reading) : Type 0 where
   pub answer : a ≡ reading_of (sheet_verdict s) (trains_of s) (period_of s)
   pub filled : head_verdict s ≡ Fine → ColumnsRead s before after
-  pub kept : (q : Refusal) → head_verdict s ≡ Refused q → after ≡ before
+  pub kept : (q : Refusal) → head_verdict s ≡ Err q → after ≡ before

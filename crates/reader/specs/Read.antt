@@ -7,13 +7,14 @@ use Rattle.std.specs.Prelude.{ℕ, ◌≡◌, List}
 use Rattle.lists.specs.Run.{padded}
 use Rattle.terms.specs.declared.ListFault.TheVariants.{BufferLength}
 use Rattle.terms.specs.declared.Refusal.TheVariants.{OfList}
-use Rattle.terms.specs.declared.Verdict.{Verdict}
+use Rattle.terms.specs.Verdict.{Verdict}
+use Rattle.reader.specs.Reading.{Reading}
 use Rattle.terms.specs.Verdict.{◌and_then◌, if_fine, number_in, place_in}
 use Rattle.sheet.specs.Format.{trains_of, period_of, departure_of, driving_of, delay_of, passengers_of, pairs_of}
 use Rattle.sheet.specs.Numbers.{Lists}
 use Rattle.sheet.specs.Checks.{lengths_verdict, sheet_verdict}
-use Rattle.reader.specs.declared.Reading.{Reading}
-use Rattle.reader.specs.Reading.{read_number, read_place, read_trains, read_period, reading_of}
+use Rattle.terms.specs.Answer.{answer_number, answer_place}
+use Rattle.reader.specs.Reading.{read_trains, read_period, reading_of}
 
 module _ (s : List ℕ) (before : Lists) where
   -- three lists of exactly 64 numbers and one of exactly 2,080; then the sheet
@@ -32,7 +33,7 @@ module _ (s : List ℕ) (before : Lists) where
 
   -- accepted answers carry number and place 0, m and T; refused ones number and place, and 0 for m and T
   pub record ReadTells (a : Reading) : Type 0 where
-    pub number : read_number a ≡ number_in read_verdict
-    pub place : read_place a ≡ place_in read_verdict
+    pub number : answer_number a ≡ number_in read_verdict
+    pub place : answer_place a ≡ place_in read_verdict
     pub trains : read_trains a ≡ if_fine read_verdict (trains_of s) 0
     pub period : read_period a ≡ if_fine read_verdict (period_of s) 0

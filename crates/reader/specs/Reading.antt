@@ -1,32 +1,26 @@
--- What the answer of read carries. Document 01, "Numbers of refusal".
---   read_number a, read_place a, read_trains a, read_period a     what the paper has the answer a carry
---   reading_of v m T     the answer by the verdict v
+-- What read answers, and what its answer carries. Document 01, "Numbers of refusal": number and place as of any answer;
+-- accepted answers carry m and T, refused ones 0 for both.
+--   Reading                        m and T, or why the sheet is refused
+--   read_trains a, read_period a   m and T of the answer a
+--   reading_of v m T               the answer by the verdict v
 -- Assumes nothing.
-use Rattle.std.specs.Prelude.{ℕ}
-use Rattle.terms.specs.declared.Verdict.{Verdict}
-use Rattle.terms.specs.declared.Verdict.TheVariants.{Fine, Refused}
-use Rattle.terms.specs.Refusal.{number_of, place_of}
-use Rattle.reader.specs.declared.Reading.{Reading}
-use Rattle.reader.specs.declared.Reading.TheVariants.{Accepted, Refused as ReadRefused}
+use Rattle.std.specs.Prelude.{ℕ, Result, Ok, Err}
+use Rattle.terms.specs.declared.Refusal.{Refusal}
+use Rattle.terms.specs.declared.Head.{Head}
+use Rattle.terms.specs.Verdict.{Verdict}
+use Rattle.terms.specs.Answer.{head, answer_of}
 
--- accepted answers carry number and place 0; refused ones carry number and place, and 0 for m and T
-abbrev pub read_number : Reading → ℕ
-read_number (Accepted m T) = 0
-read_number (ReadRefused r) = number_of r
-
-abbrev pub read_place : Reading → ℕ
-read_place (Accepted m T) = 0
-read_place (ReadRefused r) = place_of r
+abbrev pub Reading : Type 0
+Reading = Result Head Refusal
 
 abbrev pub read_trains : Reading → ℕ
-read_trains (Accepted m T) = m
-read_trains (ReadRefused r) = 0
+read_trains (Ok h) = h.trains
+read_trains (Err r) = 0
 
 abbrev pub read_period : Reading → ℕ
-read_period (Accepted m T) = T
-read_period (ReadRefused r) = 0
+read_period (Ok h) = h.period
+read_period (Err r) = 0
 
 -- m and T where the verdict is fine, else its refusal
 abbrev pub reading_of : Verdict → ℕ → ℕ → Reading
-reading_of Fine m T = Accepted m T
-reading_of (Refused r) m T = ReadRefused r
+reading_of v m T = answer_of v (head m T)

@@ -1,6 +1,6 @@
 // Read: a sheet into four lent lists, refused by number. Each field of the sheet is read once.
 // `read` has no `requires`: any bytes and any lists get an answer. `decoding::decode`, from which
-// planning and reporting start too, asks for lists of the right lengths.
+// planning and reporting start too, has lists of the right lengths by their type.
 #![tactic(auto)]
 
 pub mod decoding;
@@ -8,61 +8,29 @@ pub mod decoding;
 ghost use Rattle.std.specs.Prelude.{◌≡◌};
 ghost use Rattle.sheet.specs.Numbers.{lists};
 ghost use Rattle.sheet.specs.Accepted.{Lengths};
-ghost use Rattle.reader.specs.Reading.{read_number, read_place, read_trains, read_period};
+ghost use Rattle.reader.specs.Reading.{read_trains, read_period};
 ghost use Rattle.reader.specs.Read.{Read};
 
 use crate::decoding::decode;
-use lists::copy_u32;
 use sheet::checks::check_lengths;
-use terms::{ListFault, Refusal, Verdict};
+use sheet::numbers::{Columns, Lists};
+use terms::{Head, ListFault, Refusal};
 
 // What read answers, and what a sheet that is decoded or prepared answers: m and T, or why not.
-#[derive(Clone, Copy)]
-pub enum Reading {
-    Accepted(u32, u32),
-    Refused(Refusal),
+pub type Reading = Result<Head, Refusal>;
+
+// m, 0 where refused.
+pub fn trains(answer: Reading) -> u32
+    ensures { result ≡ read_trains answer }
+{
+    answer.map_or(0, |head| head.trains)
 }
 
-impl Reading {
-    // The number of the refusal, 0 where accepted.
-    pub fn number(self) -> u32
-        ensures { result ≡ read_number self }
-    {
-        match self {
-            Reading::Accepted(_, _) => 0,
-            Reading::Refused(refusal) => refusal.number(),
-        }
-    }
-
-    // The place of the refusal, 0 where accepted or where it has none.
-    pub fn place(self) -> u32
-        ensures { result ≡ read_place self }
-    {
-        match self {
-            Reading::Accepted(_, _) => 0,
-            Reading::Refused(refusal) => refusal.place(),
-        }
-    }
-
-    // m, 0 where refused.
-    pub fn trains(self) -> u32
-        ensures { result ≡ read_trains self }
-    {
-        match self {
-            Reading::Accepted(m, _) => m,
-            Reading::Refused(_) => 0,
-        }
-    }
-
-    // T, 0 where refused.
-    pub fn period(self) -> u32
-        ensures { result ≡ read_period self }
-    {
-        match self {
-            Reading::Accepted(_, period) => period,
-            Reading::Refused(_) => 0,
-        }
-    }
+// T, 0 where refused.
+pub fn period(answer: Reading) -> u32
+    ensures { result ≡ read_period answer }
+{
+    answer.map_or(0, |head| head.period)
 }
 
 // Reads a sheet into lists of the right lengths. It is decoded beside them, since a refusal leaves
@@ -83,25 +51,13 @@ fn read_sheet(
         delays.new passengers.new)
         result }
 {
-    let mut new_departures = [0u32; 64];
-    let mut new_driving = [0u32; 64];
-    let mut new_delays = [0u32; 64];
-    let mut new_passengers = [0u32; 2080];
-    let answer = decode(
-        sheet,
-        &mut new_departures,
-        &mut new_driving,
-        &mut new_delays,
-        &mut new_passengers,
-    );
-    if let Reading::Refused(_) = answer {
-        return answer;
-    }
-    copy_u32(departures, &new_departures);
-    copy_u32(driving, &new_driving);
-    copy_u32(delays, &new_delays);
-    copy_u32(passengers, &new_passengers);
-    answer
+    let mut columns = Columns::zeros();
+    let head = decode(sheet, &mut columns)?;
+    departures.copy_from_slice(&columns.departures);
+    driving.copy_from_slice(&columns.driving);
+    delays.copy_from_slice(&columns.delays);
+    passengers.copy_from_slice(&columns.passengers);
+    Ok(head)
 }
 
 // Reads a sheet into the lent lists.
@@ -119,17 +75,12 @@ pub fn read(
         delays.new passengers.new)
         result }
 {
-    let lengths = check_lengths(
-        Refusal::OfList(ListFault::BufferLength),
-        64,
-        2080,
+    let lent = Lists {
         departures,
         driving,
         delays,
         passengers,
-    );
-    if let Verdict::Refused(refusal) = lengths {
-        return Reading::Refused(refusal);
-    }
+    };
+    check_lengths(Refusal::OfList(ListFault::BufferLength), 64, 2080, lent)?;
     read_sheet(sheet, departures, driving, delays, passengers)
 }

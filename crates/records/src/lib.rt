@@ -10,23 +10,16 @@ pub mod sums;
 use source::byte;
 use std::io::{Read, Write};
 use std::{fmt, io};
-use terms::Answer;
+use terms::{Refusal, number, place};
 
-// What an operation answered, as it is printed: the number and the place of the refusal, and what
-// an accepted call gives.
+// Whether an operation accepted, as it is printed: the number and the place of the refusal.
 #[derive(Clone, Copy)]
-pub struct Answered(pub Answer);
+pub struct Answered<T>(pub Result<T, Refusal>);
 
-impl fmt::Display for Answered {
+impl<T: Copy> fmt::Display for Answered<T> {
     fn fmt<W: fmt::Write>(&self, f: &mut fmt::Formatter<W>) -> fmt::Result {
         let Answered(answer) = *self;
-        write!(
-            f,
-            "{} {} {}",
-            answer.number(),
-            answer.place(),
-            answer.carries()
-        )
+        write!(f, "{} {}", number(answer), place(answer))
     }
 }
 

@@ -1,22 +1,17 @@
 -- A row of cells filled from its last cell back. Places of the row count from 0; its cell j is that of station k + j.
 --   FilledFrom   the cells from j on are filled, the first of them being `next`
 -- Assumes nothing.
-use mathlib.Core.Path.{◌≡◌, ap, sym, ◌∙◌}
-use mathlib.Core.List.{List}
-use mathlib.Core.Logic.{inl, inr}
-use Prim.Native.Nat.{ℕ, ◌+◌, ◌-◌, ◌*◌, ◌≤◌, ◌<◌}
-use native.Mathlib.Nat.{le_refl}
-use native.Mathlib.Omega.{arith}
-use lib.ListN.{length, get_or, set, length-set, get_or-eq_default}
-use lib.Seq.{get_or-set_same, get_or-set_other}
+use Rattle.std.proofs.Common.{◌≡◌, ap, sym, ◌∙◌, List, inl, inr, ℕ, ◌+◌, ◌-◌, ◌*◌, ◌≤◌, ◌<◌, le_refl, arith, length, get_or, set, length-set, get_or-set_same, get_or-set_other}
+use Rattle.std.proofs.Math.ListN.{get_or-eq_default}
 use Rattle.lists.specs.Run.{nth}
-use Rattle.lists.proofs.Order.{same_or_not}
+use Rattle.std.proofs.lemmas.Bool.{cases_eq}
 use Rattle.line.specs.Cells.{lesser}
 use Rattle.line.specs.Ranges.{limit}
+use Rattle.cells.specs.declared.costs.Costs.{Costs}
 use Rattle.cells.specs.Costs.{excess_in, keep_in, go_in}
 use Rattle.rows.specs.Rows.{RowFilled}
 
-module _ (k n : ℕ) (costs diagonal : List ℕ) where
+module _ (k n : ℕ) (costs : Costs) (diagonal : List ℕ) where
   -- cell j by the cell after it
   abbrev cell_from : ℕ → ℕ → ℕ
   cell_from j next =
@@ -48,7 +43,7 @@ module _ (k n : ℕ) (costs diagonal : List ℕ) where
         → get_or (set row (j - 1) v) i 0 ≡ cell_from i (get_or (set row (j - 1) v) (i + 1) 0)
     cells_back i a b =
         let after = get_or-set_other row (j - 1) (i + 1) v 0 (λ q. omega arith) in
-        elim (same_or_not i (j - 1)) [
+        elim (cases_eq i (j - 1)) [
           | inl same ↦
               let next_is : i + 1 ≡ j = omega arith in
               rw (after, next_is, sym F.here, same) (here_is ∙ e)
@@ -67,7 +62,7 @@ module _ (k n : ℕ) (costs diagonal : List ℕ) where
         }
 
 -- the whole row
-pub filled_end : (k : ℕ) (costs diagonal before row : List ℕ) (next j : ℕ) → length before ≤ 64
+pub filled_end : (k : ℕ) (costs : Costs) (diagonal before row : List ℕ) (next j : ℕ) → length before ≤ 64
     → FilledFrom k (length before) costs diagonal row next j → j ≡ 0 → RowFilled k costs diagonal before row
 filled_end k costs diagonal before row next j few F zero =
     record {

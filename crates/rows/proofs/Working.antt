@@ -2,15 +2,10 @@
 -- was taken, and every later row stands.
 --   WorkedTo B t before cells diagonal i   rows i + 1 to t are worked, all else is as it was before
 -- Assumes nothing.
-use mathlib.Core.Path.{◌≡◌, refl, ap, sym, ◌∙◌}
-use mathlib.Core.List.{List, ◌++◌}
-use mathlib.Core.Logic.{inl, inr}
-use Prim.Native.Nat.{ℕ, ◌+◌, ◌-◌, ◌*◌, ◌≤◌, ◌<◌}
-use native.Mathlib.Nat.{le_refl, le_of_eq, eq-or-lt_of_le}
-use native.Mathlib.Omega.{arith}
-use lib.ListN.{length, get_or, set, take, drop, replicate, length-set, get_or-eq_default}
+use Rattle.std.proofs.Common.{◌≡◌, refl, ap, sym, ◌∙◌, List, ◌++◌, inl, inr, ℕ, ◌+◌, ◌-◌, ◌*◌, ◌≤◌, ◌<◌, le_refl, le_of_eq, eq-or-lt_of_le, arith, length, get_or, set, take, drop, replicate, length-set}
+use Rattle.std.proofs.Math.ListN.{get_or-eq_default}
 use Rattle.lists.specs.Run.{nth}
-use Rattle.lists.proofs.Order.{lt_or_ge, same_or_not}
+use Rattle.std.proofs.lemmas.Bool.{cases_lt, cases_eq}
 use Rattle.lists.proofs.Splice.{splice, length_splice, splice_before, splice_in, splice_after}
 use Rattle.lists.proofs.Fill.{zeros_at}
 use Rattle.lists.proofs.Held.{nth_set, nth_set_other}
@@ -20,6 +15,8 @@ use Rattle.line.proofs.Along.{excess_on_start}
 use Rattle.line.proofs.Alike.{cell_by_alike, books_alike_refl}
 use Rattle.cells.specs.Place.{cell_count, place, table_of, InRow, InUse, RowsWorked}
 use Rattle.cells.specs.Book.{book_in, BookGiven}
+use Rattle.cells.specs.declared.timing.Timing.{Timing}
+use Rattle.cells.specs.declared.costs.Costs.{Costs}
 use Rattle.cells.specs.Costs.{CostsAlong}
 use Rattle.cells.proofs.Places.{place_row, place_after, row_fits, table_in, table_past}
 use Rattle.cells.proofs.Along.{keep_le, go_le}
@@ -40,7 +37,7 @@ module _ (m k : ℕ) (cells row : List ℕ) (long : length cells ≡ cell_count)
 
   -- its cells, and 0 past the last column
   pub put_row : (l : ℕ) → k ≤ l → l ≤ m + 1 → table_of m put k l ≡ get_or row (l - k) 0
-  put_row l a b = elim (lt_or_ge m l) [
+  put_row l a b = elim (cases_lt m l) [
     | inl past ↦ table_past m put k l past ∙ sym (get_or-eq_default row 0 (omega arith))
     | inr in_use ↦
         table_in m put k l in_use
@@ -50,9 +47,9 @@ module _ (m k : ℕ) (cells row : List ℕ) (long : length cells ≡ cell_count)
 
   -- a place that is no cell of the row stands
   pub put_others : (p : ℕ) → ¬ (InRow m k p) → get_or put p 0 ≡ get_or cells p 0
-  put_others p n = elim (lt_or_ge p (place m k k)) [
+  put_others p n = elim (cases_lt p (place m k k)) [
     | inl before ↦ splice_before cells (place m k k) row fits p 0 before
-    | inr from ↦ elim (lt_or_ge p (place m k k + length row)) [
+    | inr from ↦ elim (cases_lt p (place m k k + length row)) [
       | inl inside ↦ absurd (n (record {
         column = k + (p - place m k k);
         run = omega arith;
@@ -65,9 +62,8 @@ module _ (m k : ℕ) (cells row : List ℕ) (long : length cells ≡ cell_count)
 
 -- ---- one row
 
-module _ (m k : ℕ) (timing sums costs diagonal part cells row : List ℕ) (long : length cells ≡ cell_count)
-    (few : m ≤ 64)
-    (pos : 1 ≤ k) (last : k ≤ m) (size : length row ≡ m + 1 - k) (A : CostsAlong (book_in m timing sums) k costs)
+module _ (m k : ℕ) (timing : Timing) (sums : List ℕ) (costs : Costs) (diagonal part cells row : List ℕ)
+    (long : length cells ≡ cell_count) (few : m ≤ 64) (pos : 1 ≤ k) (last : k ≤ m) (size : length row ≡ m + 1 - k) (A : CostsAlong (book_in m timing sums) k costs)
     (F : RowFilled k costs diagonal part row) where
   abbrev book : Book
   book = book_in m timing sums
@@ -130,16 +126,16 @@ pub record WorkedTo (B : Book) (t : ℕ) (before cells diagonal : List ℕ) (i :
       → table_of B.trains cells k l ≡ table_of B.trains before k l
   pub others : (p : ℕ) → ¬ (InUse B.trains t p) → get_or cells p 0 ≡ get_or before p 0
 
-pub worked_start : (B : Book) (t : ℕ) (cells diagonal : List ℕ)
+pub worked_start : (B : Book) (t : ℕ) (cells diagonal : List ℕ) → length diagonal ≡ 64
     → Diagonal B.trains t cells (replicate 64 0) diagonal
     → ((l : ℕ) → t < l → l ≤ B.trains → table_of B.trains cells l l ≤ limit) → WorkedTo B t cells cells diagonal t
-worked_start B t cells diagonal D later =
+worked_start B t cells diagonal long D later =
     record {
       most = le_refl t;
       long = refl;
-      long_diagonal = D.long;
+      long_diagonal = long;
       ahead = D.held;
-      small = λ l a b. elim (lt_or_ge t l) [
+      small = λ l a b. elim (cases_lt t l) [
         | inl u ↦ omega (arith, D.held l u b, later l u b)
         | inr u ↦ omega (arith, D.rest l a u, zeros_at 64 (l - 1))
       ];
@@ -162,7 +158,7 @@ module _ (B : Book) (t i : ℕ) (before cells diagonal after : List ℕ) (x : �
 
   -- a later row stands
   later : (j l : ℕ) → i < j → j ≤ l → d j l ≡ c j l
-  later j l a b = elim (lt_or_ge B.trains l) [
+  later j l a b = elim (cases_lt B.trains l) [
     | inl past ↦ table_past B.trains after j l past ∙ sym (table_past B.trains cells j l past)
     | inr in_use ↦
         table_in B.trains after j l in_use
@@ -192,16 +188,16 @@ module _ (B : Book) (t i : ℕ) (before cells diagonal after : List ℕ) (x : �
         most = omega (arith, W.most);
         long = R.long ∙ W.long;
         long_diagonal = length-set diagonal at x ∙ W.long_diagonal;
-        ahead = λ l a b. elim (same_or_not l i) [
+        ahead = λ l a b. elim (cases_eq l i) [
           | inl same ↦ rw same (here ∙ R.first)
           | inr not ↦ nth_set_other diagonal at i x e pos l (omega arith) not ∙ W.ahead l (omega arith) b
               ∙ sym (later l l (omega arith) (le_refl l))
         ];
-        small = λ l a b. elim (same_or_not l i) [
+        small = λ l a b. elim (cases_eq l i) [
           | inl same ↦ rw (same, here) R.most
           | inr not ↦ rw (nth_set_other diagonal at i x e pos l a not) (W.small l a b)
         ];
-        anew = λ k l a b u v. elim (same_or_not k i) [
+        anew = λ k l a b u v. elim (cases_eq k i) [
           | inl same ↦ rw same (this_row l (omega arith) v)
           | inr not ↦ later_row k l (omega arith) b u v
         ];
@@ -225,15 +221,13 @@ worked_end B t before cells diagonal i W e =
 
 -- ---- a row can be added up
 
-pub row_room : (m k : ℕ) (timing sums costs diagonal : List ℕ) → BookGiven m timing sums → 1 ≤ k → k ≤ m
-    → CostsAlong (book_in m timing sums) k costs → length diagonal ≡ 64
+pub row_room : (m k : ℕ) (timing : Timing) (sums : List ℕ) (costs : Costs) (diagonal : List ℕ)
+    → BookGiven m timing sums → 1 ≤ k → k ≤ m → CostsAlong (book_in m timing sums) k costs
     → ((l : ℕ) → 1 ≤ l → l ≤ m → nth diagonal l ≤ ceiling) → RowRoom k (m + 1 - k) costs diagonal
-row_room m k timing sums costs diagonal given pos last A long small =
+row_room m k timing sums costs diagonal given pos last A small =
     record {
       first = pos;
       last = omega (arith, given.times.trains);
-      long_costs = A.long;
-      long_diagonal = long;
       small = λ l a b. (
         keep_le m k timing sums costs given pos A l a (omega arith),
         go_le m k timing sums costs given pos A l a (omega arith),

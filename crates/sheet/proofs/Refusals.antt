@@ -11,7 +11,7 @@ use native.Mathlib.Omega.{arith}
 use lib.Dec.{eqb}
 use Rattle.bits.proofs.Fields.{field_lt}
 use Rattle.terms.specs.declared.Refusal.{Refusal}
-use Rattle.terms.specs.declared.Verdict.TheVariants.{Refused}
+use Rattle.std.specs.Prelude.{Err}
 use Rattle.terms.specs.Refusal.{number_of, blanks_of}
 use Rattle.terms.specs.Verdict.{number_in}
 use Rattle.terms.proofs.Checks.{fine_or_refused}
@@ -41,7 +41,7 @@ sheet_refusal s =
     (only_first Told _ _ _ (λ f. only_of Told _ (search (rules, inr)))))
     (only_of Told _ (search (rules, inr))))
 
-pub sheet_refusal_blanks : (s : List ℕ) (r : Refusal) → sheet_verdict s ≡ Refused r → blanks_of r ≡ true
+pub sheet_refusal_blanks : (s : List ℕ) (r : Refusal) → sheet_verdict s ≡ Err r → blanks_of r ≡ true
 sheet_refusal_blanks s r e = (sheet_refusal s r e).0
 
 pub sheet_never_13 : (s : List ℕ) → number_in (sheet_verdict s) ≡ 13 → ⊥

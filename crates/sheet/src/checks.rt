@@ -3,64 +3,59 @@
 ghost use Rattle.std.specs.Prelude.{◌≡◌, ◌≤◌, length};
 ghost use Rattle.lists.specs.Run.{nth};
 ghost use Rattle.terms.specs.Verdict.{verdict_of, first_of};
-ghost use Rattle.sheet.specs.Numbers.{lists, times_in};
+ghost use Rattle.sheet.specs.Numbers.{times_in};
+ghost use Rattle.sheet.specs.Held.{lent, times_lent};
 ghost use Rattle.sheet.specs.Checks.{lengths_verdict, ranges_verdict, earliest_of, train_checks};
 ghost use Rattle.sheet.specs.Checks.{train_verdict, passengers_verdict, numbers_verdict};
 ghost use Rattle.sheet.specs.Checks.{TrainRoom, Room};
 
 use crate::format::pairs_of;
-use terms::{HeadFault, Refusal, Train, TrainFault, Verdict};
+use crate::numbers::Lists;
+use terms::{Head, HeadFault, Refusal, Train, TrainFault, Verdict};
 
 // The lengths of four lists: `n` for each of the trains' three, `k` for the passengers'.
-pub fn check_lengths(
-    refusal: Refusal,
-    n: usize,
-    k: usize,
-    departures: &[u32],
-    driving: &[u32],
-    delays: &[u32],
-    passengers: &[u32],
-) -> Verdict
-    ensures { result ≡ lengths_verdict refusal n k
-        (lists departures.now driving.now
-        delays.now passengers.now) }
+#[tactic(auto, unfolding(crate::specs::Checks::lengths_verdict, terms::specs::Verdict::verdict_of, lists::specs::Choice::if_same))]
+pub fn check_lengths(refusal: Refusal, n: usize, k: usize, given: Lists) -> Verdict
+    ensures { result ≡ lengths_verdict refusal n k (lent given.entry) }
 {
-    if departures.len() != n {
-        return Verdict::Refused(refusal);
+    if given.departures.len() != n {
+        return Err(refusal);
     }
-    if driving.len() != n {
-        return Verdict::Refused(refusal);
+    if given.driving.len() != n {
+        return Err(refusal);
     }
-    if delays.len() != n {
-        return Verdict::Refused(refusal);
+    if given.delays.len() != n {
+        return Err(refusal);
     }
-    if passengers.len() != k {
-        return Verdict::Refused(refusal);
+    if given.passengers.len() != k {
+        return Err(refusal);
     }
-    Verdict::Fine
+    Ok(())
 }
 
 // The number of trains and the period.
-pub fn check_ranges(m: u32, period: u32) -> Verdict
-    ensures { result ≡ ranges_verdict m period }
+#[tactic(auto, unfolding(crate::specs::Checks::ranges_verdict, terms::specs::Verdict::verdict_of, lists::specs::Choice::if_below))]
+pub fn check_ranges(head: Head) -> Verdict
+    ensures { result ≡ ranges_verdict head.trains head.period }
 {
-    if m < 1 {
-        return Verdict::Refused(Refusal::OfHead(HeadFault::TrainCount));
+    if head.trains < 1 {
+        return Err(Refusal::OfHead(HeadFault::TrainCount));
     }
-    if 64 < m {
-        return Verdict::Refused(Refusal::OfHead(HeadFault::TrainCount));
+    if 64 < head.trains {
+        return Err(Refusal::OfHead(HeadFault::TrainCount));
     }
-    if period < 1 {
-        return Verdict::Refused(Refusal::OfHead(HeadFault::Period));
+    if head.period < 1 {
+        return Err(Refusal::OfHead(HeadFault::Period));
     }
-    if 1440 < period {
-        return Verdict::Refused(Refusal::OfHead(HeadFault::Period));
+    if 1440 < head.period {
+        return Err(Refusal::OfHead(HeadFault::Period));
     }
-    Verdict::Fine
+    Ok(())
 }
 
 // The earliest minute at which a train may leave: when its feeder is planned to arrive. Train 1 has
 // none and may leave at 0.
+#[tactic(auto, unfolding(crate::specs::Checks::earliest_of, lists::specs::Choice::if_below))]
 fn earliest(train: Train, departures: &[u32], driving: &[u32]) -> u64
     requires { (train.0 ≤ length departures.now) × (train.0 ≤ length driving.now) }
     ensures { result ≡ earliest_of (nth departures.now) (nth driving.now)
@@ -68,61 +63,58 @@ fn earliest(train: Train, departures: &[u32], driving: &[u32]) -> u64
 {
     if 1 < train.0 {
         let k = train.leaves().feeder().index();
-        departures[k] as u64 + driving[k] as u64
+        u64::from(departures[k]) + u64::from(driving[k])
     } else {
         0
     }
 }
 
 // The times of one train: departure, driving time, source delay, slack.
+#[tactic(auto, unfolding(crate::specs::Checks::train_checks, terms::specs::Verdict::verdict_of, lists::specs::Choice::if_below))]
 fn check_times(train: Train, departure: u64, driving: u32, delay: u32, earliest: u64) -> Verdict
     ensures { result ≡ verdict_of (train_checks train.0 departure driving delay earliest) }
 {
     if 2879 < departure {
-        return Verdict::Refused(Refusal::OfTrain(train, TrainFault::Departure));
+        return Err(Refusal::OfTrain(train, TrainFault::Departure));
     }
     if 1023 < driving {
-        return Verdict::Refused(Refusal::OfTrain(train, TrainFault::Driving));
+        return Err(Refusal::OfTrain(train, TrainFault::Driving));
     }
     if 1440 < delay {
-        return Verdict::Refused(Refusal::OfTrain(train, TrainFault::SourceDelay));
+        return Err(Refusal::OfTrain(train, TrainFault::SourceDelay));
     }
     if departure < earliest {
-        return Verdict::Refused(Refusal::OfTrain(train, TrainFault::Slack));
+        return Err(Refusal::OfTrain(train, TrainFault::Slack));
     }
-    Verdict::Fine
+    Ok(())
 }
 
 // One train of the lists.
-fn check_train(train: Train, departures: &[u32], driving: &[u32], delays: &[u32]) -> Verdict
-    requires { TrainRoom train.0 departures.now driving.now delays.now }
-    ensures { result ≡ train_verdict
-        (times_in departures.now driving.now delays.now)
-        train.0 }
+fn check_train(train: Train, given: Lists) -> Verdict
+    requires { TrainRoom train.0 given.departures.now given.driving.now given.delays.now }
+    ensures { result ≡ train_verdict (times_lent given.entry) train.0 }
 {
     let k = train.index();
-    let departure = departures[k] as u64;
-    let earliest = earliest(train, departures, driving);
-    check_times(train, departure, driving[k], delays[k], earliest)
+    let departure = u64::from(given.departures[k]);
+    let earliest = earliest(train, given.departures, given.driving);
+    check_times(
+        train,
+        departure,
+        given.driving[k],
+        given.delays[k],
+        earliest,
+    )
 }
 
 // Trains 1 to `m`, one after the other.
-fn check_trains(m: u32, departures: &[u32], driving: &[u32], delays: &[u32]) -> Verdict
-    requires { TrainRoom m departures.now driving.now delays.now }
-    ensures { result ≡ first_of
-        (train_verdict
-        (times_in departures.now driving.now delays.now))
-        1 m }
+fn check_trains(m: u32, given: Lists) -> Verdict
+    requires { TrainRoom m given.departures.now given.driving.now given.delays.now }
+    ensures { result ≡ first_of (train_verdict (times_lent given.entry)) 1 m }
 {
-    let mut i = 1;
-    while i <= m {
-        let verdict = check_train(Train(i), departures, driving, delays);
-        if let Verdict::Refused(_) = verdict {
-            return verdict;
-        }
-        i += 1;
+    for i in 1..=m {
+        check_train(Train(i), given)?;
     }
-    Verdict::Fine
+    Ok(())
 }
 
 // Passenger fields 1 to `n`.
@@ -130,32 +122,20 @@ fn check_passengers(n: usize, passengers: &[u32]) -> Verdict
     requires { (n ≤ 2080) × (n ≤ length passengers.now) }
     ensures { result ≡ first_of (passengers_verdict (nth passengers.now)) 1 n }
 {
-    let mut f = 1;
-    while f <= n {
-        if 10000 < passengers[f - 1] {
-            return Verdict::Refused(Refusal::Passengers(f as u32));
+    for (k, count) in passengers[..n].iter().enumerate() {
+        if 10000 < *count {
+            return Err(Refusal::Passengers(k as u32 + 1));
         }
-        f += 1;
     }
-    Verdict::Fine
+    Ok(())
 }
 
 // All trains, then all passenger fields.
-pub fn check_numbers(
-    m: u32,
-    departures: &[u32],
-    driving: &[u32],
-    delays: &[u32],
-    passengers: &[u32],
-) -> Verdict
-    requires { Room m (lists departures.now driving.now delays.now passengers.now) }
-    ensures { result ≡ numbers_verdict m
-        (times_in departures.now driving.now delays.now)
-        (nth passengers.now) }
+pub fn check_numbers(m: u32, given: Lists) -> Verdict
+    requires { Room m (lent given) }
+    ensures { result ≡ numbers_verdict m (times_lent given.entry)
+        (nth given.entry.passengers.now) }
 {
-    let trains = check_trains(m, departures, driving, delays);
-    if let Verdict::Refused(_) = trains {
-        return trains;
-    }
-    check_passengers(pairs_of(m as usize), passengers)
+    check_trains(m, given)?;
+    check_passengers(pairs_of(m as usize), given.passengers)
 }

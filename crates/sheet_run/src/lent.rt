@@ -1,10 +1,10 @@
-// The four lists that a record lends, and their lengths.
+// The lengths of the four lists that a record lends.
 ghost use Rattle.std.specs.Prelude.{◌≡◌, ◌≤◌, take};
 ghost use Rattle.sheet.specs.Format.{pairs_of};
 
-use records::front;
 use records::source::short;
 use sheet::format::pairs_of;
+use sheet::numbers::Lists;
 use std::io;
 use std::io::Read;
 
@@ -12,14 +12,6 @@ use std::io::Read;
 pub const TRAINS: usize = 70;
 
 pub const PASSENGERS: usize = 2100;
-
-#[derive(Clone, Copy)]
-pub struct Lists<'a> {
-    pub departures: &'a [u32],
-    pub driving: &'a [u32],
-    pub delays: &'a [u32],
-    pub passengers: &'a [u32],
-}
 
 #[derive(Clone, Copy)]
 pub struct Lengths {
@@ -54,19 +46,17 @@ impl Lengths {
     }
 }
 
-impl<'a> Lists<'a> {
-    // As many places of each list as are asked for, or all that it has.
-    pub fn front(self, lengths: Lengths) -> Lists<'a>
-        ensures departures { result.departures.now ≡ take lengths.departures self.entry.departures.now }
-        ensures driving { result.driving.now ≡ take lengths.driving self.entry.driving.now }
-        ensures delays { result.delays.now ≡ take lengths.delays self.entry.delays.now }
-        ensures passengers { result.passengers.now ≡ take lengths.passengers self.entry.passengers.now }
-    {
-        Lists {
-            departures: front(self.departures, lengths.departures),
-            driving: front(self.driving, lengths.driving),
-            delays: front(self.delays, lengths.delays),
-            passengers: front(self.passengers, lengths.passengers),
-        }
+// As many places of each list as are asked for, or all that it has.
+pub fn front(lists: Lists, lengths: Lengths) -> Lists
+    ensures departures { result.departures.now ≡ take lengths.departures lists.entry.departures.now }
+    ensures driving { result.driving.now ≡ take lengths.driving lists.entry.driving.now }
+    ensures delays { result.delays.now ≡ take lengths.delays lists.entry.delays.now }
+    ensures passengers { result.passengers.now ≡ take lengths.passengers lists.entry.passengers.now }
+{
+    Lists {
+        departures: records::front(lists.departures, lengths.departures),
+        driving: records::front(lists.driving, lengths.driving),
+        delays: records::front(lists.delays, lengths.delays),
+        passengers: records::front(lists.passengers, lengths.passengers),
     }
 }

@@ -1,10 +1,11 @@
 // Records of read.
-use crate::lent::{Lengths, Lists, PASSENGERS, TRAINS};
+use crate::lent::{Lengths, PASSENGERS, TRAINS, front};
 use crate::writes;
 use crate::writes::BEFORE;
-use reader::Reading;
+use reader::{Reading, period, trains};
 use records::source::SHEET;
-use records::{source, sums};
+use records::{Answered, source, sums};
+use sheet::numbers::Lists;
 use std::io;
 use std::io::{Read, Write};
 
@@ -12,11 +13,10 @@ use std::io::{Read, Write};
 fn show<W: Write>(out: &mut W, answer: Reading, lists: Lists) -> io::Result<()> {
     write!(
         out,
-        "read {} {} {} {}",
-        answer.number(),
-        answer.place(),
-        answer.trains(),
-        answer.period()
+        "read {} {} {}",
+        Answered(answer),
+        trains(answer),
+        period(answer)
     )?;
     writeln!(
         out,
@@ -30,10 +30,10 @@ fn show<W: Write>(out: &mut W, answer: Reading, lists: Lists) -> io::Result<()> 
 
 // An accepted sheet is written again from the front of the lists.
 fn back<W: Write>(out: &mut W, answer: Reading, lists: Lists) -> io::Result<()> {
-    if let Reading::Accepted(m, period) = answer {
+    if let Ok(head) = answer {
         let mut buffer = [BEFORE; 3907];
-        let lists = lists.front(Lengths::of_trains(m as usize));
-        writes::show(out, "back", m, period, lists, &mut buffer)?;
+        let lists = front(lists, Lengths::of_trains(head.trains as usize));
+        writes::show(out, "back", head, lists, &mut buffer)?;
     }
     Ok(())
 }

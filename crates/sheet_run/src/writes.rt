@@ -1,9 +1,11 @@
 // Records of write.
-use crate::lent::{Lengths, Lists, PASSENGERS, TRAINS};
+use crate::lent::{Lengths, PASSENGERS, TRAINS};
 use records::source::{SHEET, list, number, short};
 use records::{Answered, sums};
+use sheet::numbers::Lists;
 use std::io;
 use std::io::{Read, Write};
+use terms::Head;
 
 // What every byte of a buffer holds before write.
 pub const BEFORE: u8 = 165;
@@ -12,25 +14,16 @@ pub const BEFORE: u8 = 165;
 pub fn show<W: Write>(
     out: &mut W,
     name: &str,
-    m: u32,
-    period: u32,
+    head: Head,
     lists: Lists,
     buffer: &mut [u8],
 ) -> io::Result<()> {
-    let answer = writer::write(
-        m,
-        period,
-        lists.departures,
-        lists.driving,
-        lists.delays,
-        lists.passengers,
-        buffer,
-    );
-    let length = answer.carries() as usize;
-    let (sheet, behind) = buffer.split_at(length.min(buffer.len()));
+    let answer = writer::write(head, lists, buffer);
+    let length = answer.unwrap_or(0);
+    let (sheet, behind) = buffer.split_at((length as usize).min(buffer.len()));
     writeln!(
         out,
-        "{name} {} {} {}",
+        "{name} {} {length} {} {}",
         Answered(answer),
         sums::of(sheet),
         sums::of(behind)
@@ -38,8 +31,10 @@ pub fn show<W: Write>(
 }
 
 pub fn record<R: Read, W: Write>(from: &mut R, out: &mut W) -> io::Result<()> {
-    let m = number(from)?;
-    let period = number(from)?;
+    let head = Head {
+        trains: number(from)?,
+        period: number(from)?,
+    };
     let lent = Lengths::next(from)?;
     let room = short(from)?;
     let mut departures = [0u32; TRAINS];
@@ -61,12 +56,5 @@ pub fn record<R: Read, W: Write>(from: &mut R, out: &mut W) -> io::Result<()> {
         passengers,
     };
     let mut buffer = [BEFORE; SHEET];
-    show(
-        out,
-        "write",
-        m,
-        period,
-        lists,
-        &mut buffer[..room.min(SHEET)],
-    )
+    show(out, "write", head, lists, &mut buffer[..room.min(SHEET)])
 }

@@ -1,5 +1,5 @@
 -- Laws of checks in their order, as a function that answers a verdict uses them: a test that refused is the answer
--- (`hit`, `unlike`), a test that passed leaves the rest (`miss`, `alike`); and a list of checks is fine exactly when
+-- (`hit`, `unlike`), a test that passed leaves the rest (`miss`); and a list of checks is fine exactly when
 -- each of them passes.
 --   Passes c, refusal_of c   the check c finds nothing; what it refuses for
 --   Passed checks            each of them passes
@@ -14,25 +14,25 @@ use native.Mathlib.Decide.{ℕ_discrete}
 use native.Mathlib.Omega.{arith}
 use Rattle.lists.specs.Run.{run_of}
 use Rattle.lists.proofs.Choice.{below_yes, below_no, same_yes, same_no}
-use Rattle.lists.proofs.Order.{lt_or_ge, zero_not_one}
+use Rattle.std.proofs.lemmas.Bool.{cases_lt}
 use Rattle.lists.proofs.Run.{run_next, run_none}
 use Rattle.terms.specs.declared.Refusal.{Refusal}
-use Rattle.terms.specs.declared.Verdict.{Verdict}
-use Rattle.terms.specs.declared.Verdict.TheVariants.{Fine, Refused}
+use Rattle.std.specs.Prelude.{Ok, Err}
+use Rattle.terms.specs.Verdict.{Verdict, Fine}
 use Rattle.terms.specs.Verdict.{Check, refuse◌when◌below◌, refuse◌unless◌is◌, verdict_of, ◌and_then◌, first_of}
 use Rattle.terms.specs.Verdict.{if_fine}
 
 -- ---- a check and those that follow
 
-pub refused_not_fine : {A : Type 0} {r : Refusal} → Refused r ≡ Fine → A
-refused_not_fine e = zero_not_one (cc)
+pub refused_not_fine : {A : Type 0} {r : Refusal} → Err r ≡ Fine → A
+refused_not_fine e = cc
 
-pub fine_or_refused : (v : Verdict) → (v ≡ Fine) ⊎ ((r : Refusal) × (v ≡ Refused r))
-fine_or_refused Fine = inl refl
-fine_or_refused (Refused r) = inr (r, refl)
+pub fine_or_refused : (v : Verdict) → (v ≡ Fine) ⊎ ((r : Refusal) × (v ≡ Err r))
+fine_or_refused (Ok u) = inl refl
+fine_or_refused (Err r) = inr (r, refl)
 
 -- x refused, so v does
-pub then_stop : (x y : Verdict) {v : Verdict} {r : Refusal} → v ≡ Refused r → v ≡ x → v ≡ x and_then y
+pub then_stop : (x y : Verdict) {v : Verdict} {r : Refusal} → v ≡ Err r → v ≡ x → v ≡ x and_then y
 unfolding ◌and_then◌
 then_stop x y p q = p ∙ ap (λ (u : Verdict). u and_then y) (sym p ∙ q)
 
@@ -43,19 +43,19 @@ then_pass x y w p e = e ∙ ap (λ (u : Verdict). u and_then y) (sym p)
 
 pub then_fine : (x y : Verdict) → x and_then y ≡ Fine → (x ≡ Fine) × (y ≡ Fine)
 unfolding ◌and_then◌
-then_fine Fine y e = (refl, e)
-then_fine (Refused r) y e = refused_not_fine e
+then_fine (Ok u) y e = (refl, e)
+then_fine (Err r) y e = refused_not_fine e
 
 -- y finds nothing, so x decides
 pub then_nothing : (x y : Verdict) → y ≡ Fine → x ≡ x and_then y
 unfolding ◌and_then◌
-then_nothing Fine y e = sym e
-then_nothing (Refused r) y e = refl
+then_nothing (Ok u) y e = sym e
+then_nothing (Err r) y e = refl
 
 pub then_assoc : (x y z : Verdict) → (x and_then y) and_then z ≡ x and_then y and_then z
 unfolding ◌and_then◌
-then_assoc Fine y z = refl
-then_assoc (Refused r) y z = refl
+then_assoc (Ok u) y z = refl
+then_assoc (Err r) y z = refl
 
 pub fine_then : {x y : Verdict} → x ≡ Fine → y ≡ Fine → x and_then y ≡ Fine
 fine_then {x} {y} p q = sym (then_pass x y Fine p (sym q))
@@ -73,10 +73,10 @@ refusal_of (refuse r unless a is b) = r
 
 -- a check refuses or leaves the rest
 pub check_or_rest : (c : Check) (rest : List Check)
-    → ((Passes c → ⊥) × (verdict_of (c ∷ rest) ≡ Refused (refusal_of c)))
+    → ((Passes c → ⊥) × (verdict_of (c ∷ rest) ≡ Err (refusal_of c)))
     ⊎ (Passes c × (verdict_of (c ∷ rest) ≡ verdict_of rest))
 unfolding verdict_of
-check_or_rest (refuse r when a below b) rest = elim (lt_or_ge a b) [
+check_or_rest (refuse r when a below b) rest = elim (cases_lt a b) [
   | inl l ↦ inl ((λ p. omega arith), below_yes _ _ l)
   | inr l ↦ inr (l, below_no _ _ l)
 ]
@@ -108,7 +108,7 @@ fine_of_passed (c ∷ rest) h = elim (check_or_rest c rest) [
 -- ---- what a function answers that tests one check after the other
 
 pub hit : (r : Refusal) (a b : ℕ) (rest : List Check) → a < b
-    → Refused r ≡ verdict_of ((refuse r when a below b) ∷ rest)
+    → Err r ≡ verdict_of ((refuse r when a below b) ∷ rest)
 unfolding verdict_of
 hit r a b rest l = sym (below_yes _ _ l)
 
@@ -118,22 +118,13 @@ unfolding verdict_of
 miss r a b rest w l e = e ∙ sym (below_no _ _ l)
 
 pub unlike : (r : Refusal) (a b : ℕ) (rest : List Check) → (a ≡ b → ⊥)
-    → Refused r ≡ verdict_of ((refuse r unless a is b) ∷ rest)
+    → Err r ≡ verdict_of ((refuse r unless a is b) ∷ rest)
 unfolding verdict_of
 unlike r a b rest n = sym (same_no _ _ n)
-
-pub alike : (r : Refusal) (a b : ℕ) (rest : List Check) (w : Verdict) → a ≡ b → w ≡ verdict_of rest
-    → w ≡ verdict_of ((refuse r unless a is b) ∷ rest)
-unfolding verdict_of
-alike r a b rest w q e = e ∙ sym (same_yes _ _ q)
 
 pub no_more : Fine ≡ verdict_of []
 unfolding verdict_of
 no_more = refl
-
--- `search chain depth n` answers a function's returns, n being one more than its tests: those that led there say which
--- check is the first to refuse
-pub ruleset chain = (rules, hit, miss, unlike, alike, no_more)
 
 -- ---- a loop that looks for the first refusal of n checks, from check a on
 
@@ -166,7 +157,7 @@ module _ (f : ℕ → Verdict) (a n : ℕ) where
       }
 
   -- check i refused: that is the answer
-  pub search_stop : {i : ℕ} {v : Verdict} {r : Refusal} → Searching f a n i → i < a + n → v ≡ Refused r → v ≡ f i
+  pub search_stop : {i : ℕ} {v : Verdict} {r : Refusal} → Searching f a n i → i < a + n → v ≡ Err r → v ≡ f i
       → v ≡ first_of f a n
   search_stop {i} h l p q = then_stop (f i) _ p q ∙ sym (first_next i l) ∙ h.rest
 
@@ -174,6 +165,11 @@ module _ (f : ℕ → Verdict) (a n : ℕ) where
   pub search_end : {i : ℕ} → Searching f a n i → a + n ≤ i → Fine ≡ first_of f a n
   unfolding first_of
   search_end {i} h l = sym (run_none ◌and_then◌ Fine f i (a + n - i) (omega arith)) ∙ h.rest
+
+  -- the last one passed
+  pub search_last : {i : ℕ} {v : Verdict} → Searching f a n i → i + 1 ≡ a + n → v ≡ Fine → v ≡ f i
+      → Fine ≡ first_of f a n
+  search_last h e p q = search_end (search_next h (omega arith) p q) (omega arith)
 
 -- every check of a run that is fine is fine
 pub first_fine : (f : ℕ → Verdict) (i n : ℕ) → first_of f i n ≡ Fine → (j : ℕ) → i ≤ j → j < i + n → f j ≡ Fine
@@ -195,7 +191,7 @@ fine_first f i (suc n) h =
 
 -- the first check that refuses is what a run of them says
 pub first_refused : (f : ℕ → Verdict) (i n j : ℕ) (r : Refusal) → i ≤ j → j < i + n
-    → ((q : ℕ) → i ≤ q → q < j → f q ≡ Fine) → f j ≡ Refused r → first_of f i n ≡ Refused r
+    → ((q : ℕ) → i ≤ q → q < j → f q ≡ Fine) → f j ≡ Err r → first_of f i n ≡ Err r
 unfolding first_of run_of
 first_refused f i zero j r a b fine e = let no_way : ⊥ = omega arith in absurd no_way
 first_refused f i (suc n) j r a b fine e =
@@ -211,5 +207,5 @@ first_refused f i (suc n) j r a b fine e =
 pub if_fine_lem : {A : Type 0} (v : Verdict) (x y : A) → Fine ≡ v → x ≡ if_fine v x y
 if_fine_lem v x y e = ap (λ (u : Verdict). if_fine u x y) e
 
-pub if_refused : {A : Type 0} (v : Verdict) (x y : A) {r : Refusal} → Refused r ≡ v → y ≡ if_fine v x y
+pub if_refused : {A : Type 0} (v : Verdict) (x y : A) {r : Refusal} → Err r ≡ v → y ≡ if_fine v x y
 if_refused v x y e = ap (λ (u : Verdict). if_fine u x y) e

@@ -16,20 +16,20 @@ use Rattle.terms.specs.declared.TrainFault.TheVariants.{Departure, Driving, Sour
 use Rattle.terms.specs.declared.ReportFault.TheVariants.{NoSuchTrain, NewDelay, CellOverLimit}
 use Rattle.terms.specs.declared.Refusal.{Refusal}
 use Rattle.terms.specs.declared.Refusal.TheVariants.{OfList, OfHead, OfTrain, Passengers, Filling, OfReport}
-use Rattle.terms.specs.declared.Verdict.{Verdict}
-use Rattle.terms.specs.declared.Verdict.TheVariants.{Fine, Refused}
+use Rattle.std.specs.Prelude.{Ok, Err}
+use Rattle.terms.specs.Verdict.{Verdict, Fine}
 use Rattle.terms.specs.Refusal.{number_of, blanks_of}
 use Rattle.terms.specs.Verdict.{Check, verdict_of, ◌and_then◌, first_of, number_in}
 use Rattle.terms.proofs.Checks.{Passes, refusal_of, refused_not_fine, check_or_rest}
 
 module _ (P : Refusal → Type 0) where
   abbrev pub Only : Verdict → Type 0
-  Only v = (r : Refusal) → v ≡ Refused r → P r
+  Only v = (r : Refusal) → v ≡ Err r → P r
 
   pub only_fine : Only Fine
   only_fine r e = refused_not_fine (sym e)
 
-  pub only_refused : (q : Refusal) → P q → Only (Refused q)
+  pub only_refused : (q : Refusal) → P q → Only (Err q)
   only_refused q h r e = let same : q ≡ r = cc in rw same at h
 
   abbrev pub Each : List Check → Type 0
@@ -49,8 +49,8 @@ module _ (P : Refusal → Type 0) where
 
   pub only_then : (v w : Verdict) → Only v → Only w → Only (v and_then w)
   unfolding ◌and_then◌
-  only_then Fine w f g = g
-  only_then (Refused q) w f g = f
+  only_then (Ok u) w f g = g
+  only_then (Err q) w f g = f
 
   pub only_first : (f : ℕ → Verdict) (i n : ℕ) → ((j : ℕ) → Only (f j)) → Only (first_of f i n)
   unfolding first_of run_of
@@ -85,5 +85,5 @@ numbered (OfReport (CellOverLimit t)) = (λ e. omega arith, inr (λ e. omega ari
 
 -- number 0 is that of no refusal
 pub zero_is_fine : (v : Verdict) → number_in v ≡ 0 → v ≡ Fine
-zero_is_fine Fine e = refl
-zero_is_fine (Refused r) e = absurd ((numbered r).0 e)
+zero_is_fine (Ok u) e = refl
+zero_is_fine (Err r) e = absurd ((numbered r).0 e)

@@ -4,25 +4,32 @@
 --   answer_carries a                  the total, or in write the length of the sheet
 --   answer_of v n                     the answer by the verdict v, n being what it carries if accepted
 -- Assumes nothing.
-use Rattle.std.specs.Prelude.{ℕ}
+use Rattle.std.specs.Prelude.{ℕ, Result, Ok, Err}
 use Rattle.terms.specs.Refusal.{number_of, place_of}
-use Rattle.terms.specs.declared.Verdict.{Verdict}
-use Rattle.terms.specs.declared.Verdict.TheVariants.{Fine, Refused}
-use Rattle.terms.specs.declared.Answer.{Answer}
-use Rattle.terms.specs.declared.Answer.TheVariants.{Accepted, Refused as AnswerRefused}
+use Rattle.terms.specs.declared.Refusal.{Refusal}
+use Rattle.terms.specs.declared.Head.{Head}
+use Rattle.terms.specs.Verdict.{Verdict}
 
-abbrev pub answer_number : Answer → ℕ
-answer_number (Accepted n) = 0
-answer_number (AnswerRefused r) = number_of r
+-- a head of m trains and the period T
+abbrev pub head : ℕ → ℕ → Head
+head m T = record { trains = m; period = T }
 
-abbrev pub answer_place : Answer → ℕ
-answer_place (Accepted n) = 0
-answer_place (AnswerRefused r) = place_of r
+abbrev pub Answer : Type 0
+Answer = Result ℕ Refusal
+
+abbrev pub answer_number : {A : Type 0} → Result A Refusal → ℕ
+answer_number (Ok x) = 0
+answer_number (Err r) = number_of r
+
+abbrev pub answer_place : {A : Type 0} → Result A Refusal → ℕ
+answer_place (Ok x) = 0
+answer_place (Err r) = place_of r
 
 abbrev pub answer_carries : Answer → ℕ
-answer_carries (Accepted n) = n
-answer_carries (AnswerRefused r) = 0
+answer_carries (Ok n) = n
+answer_carries (Err r) = 0
 
-abbrev pub answer_of : Verdict → ℕ → Answer
-answer_of Fine n = Accepted n
-answer_of (Refused r) n = AnswerRefused r
+-- what an operation answers by the verdict v, x being what it brings if accepted
+abbrev pub answer_of : {A : Type 0} → Verdict → A → Result A Refusal
+answer_of (Ok u) x = Ok x
+answer_of (Err r) x = Err r

@@ -8,13 +8,17 @@
 --   if_fine v x y             x where the verdict v is fine, y where it refuses
 --   number_in v, place_in v   the paper's number and place of a verdict; 0 and 0 where it is fine
 -- Assumes nothing.
-use Rattle.std.specs.Prelude.{ℕ, List, [], ◌∷◌}
+use Rattle.std.specs.Prelude.{ℕ, List, [], ◌∷◌, Result, Ok, Err}
 use Rattle.lists.specs.Choice.{if_below, if_same}
 use Rattle.lists.specs.Run.{run_of}
 use Rattle.terms.specs.declared.Refusal.{Refusal}
 use Rattle.terms.specs.Refusal.{number_of, place_of}
-use Rattle.terms.specs.declared.Verdict.{Verdict}
-use Rattle.terms.specs.declared.Verdict.TheVariants.{Fine, Refused}
+
+abbrev pub Verdict : Type 0
+Verdict = Result (Unit {0}) Refusal
+
+abbrev pub Fine : Verdict
+Fine = Ok tt
 
 infixr 20 ◌and_then◌
 infix 30 refuse◌when◌below◌ refuse◌unless◌is◌
@@ -24,24 +28,24 @@ pub data Check : Type 0 where
 
 unfoldable pub verdict_of : List Check → Verdict
 verdict_of [] = Fine
-verdict_of ((refuse r when a below b) ∷ rest) = if_below a b (Refused r) (verdict_of rest)
-verdict_of ((refuse r unless a is b) ∷ rest) = if_same a b (verdict_of rest) (Refused r)
+verdict_of ((refuse r when a below b) ∷ rest) = if_below a b (Err r) (verdict_of rest)
+verdict_of ((refuse r unless a is b) ∷ rest) = if_same a b (verdict_of rest) (Err r)
 
 unfoldable pub ◌and_then◌ : Verdict → Verdict → Verdict
-Fine and_then w = w
-Refused r and_then w = Refused r
+Ok u and_then w = w
+Err r and_then w = Err r
 
 unfoldable pub first_of : (ℕ → Verdict) → ℕ → ℕ → Verdict
 first_of f i n = run_of ◌and_then◌ Fine f i n
 
 abbrev pub if_fine : {A : Type 0} → Verdict → A → A → A
-if_fine Fine x y = x
-if_fine (Refused r) x y = y
+if_fine (Ok u) x y = x
+if_fine (Err r) x y = y
 
 abbrev pub number_in : Verdict → ℕ
-number_in Fine = 0
-number_in (Refused r) = number_of r
+number_in (Ok u) = 0
+number_in (Err r) = number_of r
 
 abbrev pub place_in : Verdict → ℕ
-place_in Fine = 0
-place_in (Refused r) = place_of r
+place_in (Ok u) = 0
+place_in (Err r) = place_of r

@@ -27,12 +27,12 @@ impl Train {
         Station(self.0 + 1)
     }
 
-    // Where the train stands in a list that begins with train 1.
+    // Where the train stands in a list that begins with train 1: where its station stands.
     pub fn index(self) -> usize
         requires { 1 ≤ self.0 }
         ensures { result ≡ self.0 - 1 }
     {
-        self.0 as usize - 1
+        self.leaves().index()
     }
 }
 
@@ -185,48 +185,42 @@ impl Refusal {
     }
 }
 
-// What a check finds.
+// The head of a sheet, which is what read answers: m and T.
 #[derive(Clone, Copy)]
-pub enum Verdict {
-    Fine,
-    Refused(Refusal),
+pub struct Head {
+    pub trains: u32,
+    pub period: u32,
 }
+
+// What a check finds: nothing, or why the input is refused.
+pub type Verdict = Result<(), Refusal>;
 
 // What write, plan and report answer: the one number that an accepted call brings, or why not.
-#[derive(Clone, Copy)]
-pub enum Answer {
-    Accepted(u64),
-    Refused(Refusal),
+pub type Answer = Result<u64, Refusal>;
+
+// The number of the refusal, 0 where accepted, whatever an accepted call brings.
+pub fn number<T: Copy>(answer: Result<T, Refusal>) -> u32
+    ensures { result ≡ answer_number answer }
+{
+    match answer {
+        Ok(_) => 0,
+        Err(refusal) => refusal.number(),
+    }
 }
 
-impl Answer {
-    // The number of the refusal, 0 where accepted.
-    pub fn number(self) -> u32
-        ensures { result ≡ answer_number self }
-    {
-        match self {
-            Answer::Accepted(_) => 0,
-            Answer::Refused(refusal) => refusal.number(),
-        }
+// The place of the refusal, 0 where accepted or where it has none.
+pub fn place<T: Copy>(answer: Result<T, Refusal>) -> u32
+    ensures { result ≡ answer_place answer }
+{
+    match answer {
+        Ok(_) => 0,
+        Err(refusal) => refusal.place(),
     }
+}
 
-    // The place of the refusal, 0 where accepted or where it has none.
-    pub fn place(self) -> u32
-        ensures { result ≡ answer_place self }
-    {
-        match self {
-            Answer::Accepted(_) => 0,
-            Answer::Refused(refusal) => refusal.place(),
-        }
-    }
-
-    // The total, or in write the length of the sheet; 0 where refused.
-    pub fn carries(self) -> u64
-        ensures { result ≡ answer_carries self }
-    {
-        match self {
-            Answer::Accepted(number) => number,
-            Answer::Refused(_) => 0,
-        }
-    }
+// The total, or in write the length of the sheet; 0 where refused.
+pub fn carries(answer: Answer) -> u64
+    ensures { result ≡ answer_carries answer }
+{
+    answer.unwrap_or(0)
 }

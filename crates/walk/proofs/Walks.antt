@@ -1,12 +1,7 @@
 -- The walk along cells as they stand: one station's step, and what stands after the trains passed.
 --   Walking B c decisions delays costs first i   the walk stands at station i, on the run from `first`
 -- Assumes nothing.
-use mathlib.Core.Path.{◌≡◌, refl, ap, ap₂, sym, ◌∙◌}
-use mathlib.Core.List.{List}
-use Prim.Native.Nat.{ℕ, ◌+◌, ◌-◌, ◌≤◌, ◌<◌}
-use native.Mathlib.Nat.{le_refl, le_trans, le_of_eq}
-use native.Mathlib.Omega.{arith}
-use lib.ListN.{set, replicate}
+use Rattle.std.proofs.Common.{◌≡◌, refl, ap, ap₂, sym, ◌∙◌, List, ℕ, ◌+◌, ◌-◌, ◌≤◌, ◌<◌, le_refl, le_trans, le_of_eq, arith, set, replicate}
 use Rattle.lists.specs.Choice.{if_below}
 use Rattle.lists.specs.Filled.{Filled}
 use Rattle.lists.proofs.Choice.{below_yes, below_no}
@@ -18,8 +13,11 @@ use Rattle.line.proofs.Along.{excess_on_start, arrival_on_departed}
 use Rattle.line.proofs.Bounds.{arrival_on_le}
 use Rattle.line.proofs.Decided.{begins_next, begins_first, begins_le, policy_by_next, decided_arrives}
 use Rattle.cells.specs.Place.{table_of}
+use Rattle.cells.specs.declared.timing.Timing.{Timing}
+use Rattle.cells.specs.declared.costs.Costs.{Costs}
+use Rattle.cells.specs.declared.book.Book.{Book as Holder}
 use Rattle.cells.specs.Timing.{source_in, running_in}
-use Rattle.cells.specs.Book.{book_in}
+use Rattle.cells.specs.Held.{book_held}
 use Rattle.cells.specs.Costs.{excess_in, CostsAlong}
 use Rattle.cells.specs.Shown.{byte_of, shown}
 use Rattle.cells.proofs.Along.{keep_le, go_le, kept_arrives}
@@ -29,77 +27,63 @@ use Rattle.walk.specs.Following.{chosen_by, ChoiceGiven, StepGiven, Stepped, Wal
 
 -- ---- one station's step
 
-byte_keep : (d : Decision) → byte_of d ≡ 1 → d ≡ Keep
-byte_keep Keep e = refl
-byte_keep Go e = absurd (omega arith)
-
-byte_go : (d : Decision) → ¬ (byte_of d ≡ 1) → d ≡ Go
-byte_go Keep n = absurd (n refl)
-byte_go Go n = refl
-
 -- a run begins on time
-pub begun : (timing : List ℕ) (l : ℕ) → 1 ≤ l → 0 + source_in timing l ≡ arrival_on (running_in timing) l l
+pub begun : (timing : Timing) (l : ℕ) → 1 ≤ l → 0 + source_in timing l ≡ arrival_on (running_in timing) l l
 begun timing l pos =
     let R = running_in timing in
     sym (arrival_on_departed R l l pos ∙ ap (λ (x : ℕ). x + source_in timing l) (excess_on_start R l l (le_refl l)))
 
-module _ (m k l : ℕ) (costs cells timing sums boarding : List ℕ)
-    (given : StepGiven m k l costs cells timing sums boarding) where
+module _ (book : Holder) (k l : ℕ) (costs : Costs) (cells : List ℕ)
+    (step : StepGiven (book_held book) k l costs cells) where
   abbrev B : Book
-  B = book_in m timing sums
+  B = book_held book
 
   abbrev C : Table
-  C = table_of m cells
+  C = table_of book.m cells
 
-  pub step_chooses : ChoiceGiven m k l costs cells
+  pub step_chooses : ChoiceGiven book.m k l costs cells
   step_chooses =
       let run : k ≤ l = omega arith in
       record {
-        trains = given.given.times.trains;
-        first = given.first;
+        trains = book.given.times.trains;
+        first = step.first;
         run = run;
-        last = given.last;
-        long_costs = given.along.long;
-        keep_most = keep_le m k timing sums costs given.given given.first given.along l run given.last;
-        go_most = go_le m k timing sums costs given.given given.first given.along l run given.last;
-        long = given.long;
-        range = given.range;
+        last = step.last;
+        keep_most = keep_le book.m k book.timing.now book.sums.now costs book.given step.first step.along l run step.last;
+        go_most = go_le book.m k book.timing.now book.sums.now costs book.given step.first step.along l run step.last;
+        long = step.long;
+        range = step.range;
       }
 
   -- the costs and the cells make the choice
   chosen : chosen_by costs C k l ≡ choice B C k l
   unfolding choice keep_cost go_cost
   chosen =
-      let here = given.along.each l (omega arith) given.last in
+      let here = step.along.each l (omega arith) step.last in
       rw (here.excess, here.keep, here.go)
 
-  module _ (d : ℕ) (shows : d ≡ byte_of (chosen_by costs C k l)) where
-    shown_choice : d ≡ byte_of (choice B C k l)
-    shown_choice = shows ∙ ap byte_of chosen
+  -- under keep the run goes on
+  pub stepped_keep : Keep ≡ chosen_by costs C k l
+      → Stepped B C k l Keep k (excess_in costs l + source_in book.timing.now l) costs
+  stepped_keep e =
+      record {
+        decides = e ∙ chosen;
+        first = refl;
+        late = kept_arrives book.m k book.timing.now book.sums.now costs book.given step.first step.along l (omega arith)
+            step.last;
+        along = step.along;
+      }
 
-    -- under keep the run goes on
-    pub stepped_keep : d ≡ 1 → Stepped B C k l d k (excess_in costs l + source_in timing l) costs
-    stepped_keep one =
-        let keeps = byte_keep (choice B C k l) (sym shown_choice ∙ one) in
-        record {
-          byte = shown_choice;
-          first = rw keeps;
-          late = kept_arrives m k timing sums costs given.given given.first given.along l (omega arith)
-              given.last;
-          along = given.along;
-        }
-
-    -- under go train l begins one, on time
-    pub stepped_go : ¬ (d ≡ 1) → (after : List ℕ) → CostsAlong B l after
-        → Stepped B C k l d l (0 + source_in timing l) after
-    stepped_go not after A =
-        let goes = byte_go (choice B C k l) (λ one. not (shown_choice ∙ one)) in
-        record { byte = shown_choice; first = rw goes; late = begun timing l (omega arith); along = A }
+  -- under go train l begins one, on time
+  pub stepped_go : Go ≡ chosen_by costs C k l → (after : Costs) → CostsAlong B l after
+      → Stepped B C k l Go l (0 + source_in book.timing.now l) after
+  stepped_go e after A =
+      record { decides = e ∙ chosen; first = refl; late = begun book.timing.now l (omega arith); along = A }
 
 -- ---- the walk
 
 -- the trains before station i have decided and arrived, and the rest is 0
-pub record Walking (B : Book) (c : Table) (decisions delays costs : List ℕ) (first i : ℕ) : Type 0 where
+pub record Walking (B : Book) (c : Table) (decisions delays : List ℕ) (costs : Costs) (first i : ℕ) : Type 0 where
   pub few : B.trains ≤ 64
   pub done : ℕ
   pub some : 1 ≤ done
@@ -112,7 +96,7 @@ pub record Walking (B : Book) (c : Table) (decisions delays costs : List ℕ) (f
 
 module _ (B : Book) (c : Table) where
   -- the lists are blank; train 1 begins the first run, on time, and has nobody to wait for
-  pub walk_start : (decisions delays costs : List ℕ) (k late : ℕ) → decisions ≡ replicate 64 0 → delays ≡ replicate 64 0
+  pub walk_start : (decisions delays : List ℕ) (costs : Costs) (k late : ℕ) → decisions ≡ replicate 64 0 → delays ≡ replicate 64 0
       → k ≡ 0 → B.trains ≤ 64 → 1 ≤ B.trains → late ≡ arrival_on B.running 1 1 → CostsAlong B 1 costs
       → Walking B c decisions (set delays k late) costs 1 2
   walk_start decisions delays costs k late d y at few some e A =
@@ -131,12 +115,13 @@ module _ (B : Book) (c : Table) where
         delayed = rw (y, at) (filled_next 0 _ (blank _) (omega arith) arrives);
       }
 
-  module _ (decisions delays costs : List ℕ) (first i : ℕ) (w : Walking B c decisions delays costs first i) where
+  module _ (decisions delays : List ℕ) (costs : Costs) (first i : ℕ) (w : Walking B c decisions delays costs first i) where
     -- one station more
-    module _ (d f x : ℕ) (after : List ℕ) (s : Stepped B c first i d f x after) where
+    module _ (d : Decision) (f x : ℕ) (after : Costs) (s : Stepped B c first i d f x after) where
       begins_at : f ≡ begins (choice B c) (w.done + 1)
       begins_at =
-          s.first ∙ ap₂ (λ (k l : ℕ). under (choice B c k l) k l) w.run w.next
+          s.first ∙ ap (λ (e : Decision). under e first i) s.decides
+          ∙ ap₂ (λ (k l : ℕ). under (choice B c k l) k l) w.run w.next
           ∙ sym (begins_next (choice B c) w.done)
 
       arrives : x ≡ arrival B.running (decide B c) (w.done + 1)
@@ -144,15 +129,14 @@ module _ (B : Book) (c : Table) where
           s.late ∙ ap₂ (arrival_on B.running) begins_at w.next
           ∙ sym (decided_arrives B c (w.done + 1) (omega arith))
 
-      decides : d ≡ if_below 1 (w.done + 1) (byte_of (decide B c (w.done + 1))) 0
+      decides : byte_of d ≡ if_below 1 (w.done + 1) (byte_of (decide B c (w.done + 1))) 0
       unfolding decide
       decides =
-          s.byte
-          ∙ ap byte_of (ap₂ (choice B c) w.run w.next ∙ sym (policy_by_next (choice B c) w.done))
+          ap byte_of (s.decides ∙ ap₂ (choice B c) w.run w.next ∙ sym (policy_by_next (choice B c) w.done))
           ∙ sym (below_yes _ _ (omega arith))
 
       pub walk_next : (k : ℕ) → k ≡ i - 1 → i ≤ B.trains
-          → Walking B c (set decisions k d) (set delays k x) after f (i + 1)
+          → Walking B c (set decisions k (byte_of d)) (set delays k x) after f (i + 1)
       walk_next k at last =
           let index : k ≡ w.done = omega arith in
           record {
@@ -179,20 +163,15 @@ module _ (B : Book) (c : Table) where
 
 -- ---- what the code asks of the walk
 
-module _ (m : ℕ) (decisions₀ delays₀ costs₀ cells timing sums boarding : List ℕ)
-    (given : WalkGiven m decisions₀ delays₀ costs₀ cells timing sums boarding) where
-  abbrev book : Book
-  book = book_in m timing sums
-
+module _ (book : Holder) (cells : List ℕ) where
   -- the station at which the walk stands can be stepped
-  pub walk_asks : (decisions delays costs : List ℕ) (first i : ℕ)
-      → Walking book (table_of m cells) decisions delays costs first i → i ≤ m
-      → StepGiven m first i costs cells timing sums boarding
-  walk_asks decisions delays costs first i w last =
-      let on = begins_le (choice book (table_of m cells)) w.done w.some in
+  pub walk_asks : (decisions₀ delays₀ decisions delays : List ℕ) (costs : Costs) (first i : ℕ)
+      → WalkGiven book.m decisions₀ delays₀ cells
+      → Walking (book_held book) (table_of book.m cells) decisions delays costs first i → i ≤ book.m
+      → StepGiven (book_held book) first i costs cells
+  walk_asks decisions₀ delays₀ decisions delays costs first i given w last =
+      let on = begins_le (choice (book_held book) (table_of book.m cells)) w.done w.some in
       record {
-        given = given.given;
-        boarders = given.boarders;
         first = omega arith;
         run = omega arith;
         last = last;
@@ -202,8 +181,9 @@ module _ (m : ℕ) (decisions₀ delays₀ costs₀ cells timing sums boarding :
       }
 
   -- and its train arrives no later than any can
-  pub walk_late : (k l d f x : ℕ) (costs : List ℕ) → l ≤ m → Stepped book (table_of m cells) k l d f x costs
-      → x ≤ latest
+  pub walk_late : (k l : ℕ) (d : Decision) (f x : ℕ) (costs : Costs) → l ≤ book.m
+      → Stepped (book_held book) (table_of book.m cells) k l d f x costs → x ≤ latest
   walk_late k l d f x costs last s =
       le_trans (le_of_eq s.late)
-      (arrival_on_le m (running_in timing) (running_in_range m timing given.given.times) _ l last)
+      (arrival_on_le book.m (running_in book.timing.now) (running_in_range book.m book.timing.now book.given.times) _ l
+      last)

@@ -4,86 +4,98 @@
 ghost use Rattle.std.specs.Prelude.{◌≡◌};
 ghost use Rattle.line.specs.Cells.{prefer};
 ghost use Rattle.cells.specs.Place.{table_of};
-ghost use Rattle.cells.specs.Book.{book_in};
+ghost use Rattle.cells.specs.Held.{book_held};
 ghost use Rattle.cells.specs.Shown.{byte_of};
 ghost use Rattle.walk.specs.Walked.{Walked};
-ghost use Rattle.walk.specs.Following.{chosen_by, ChoiceGiven, StepGiven, Stepped, WalkGiven};
+ghost use Rattle.walk.specs.Following.{decision_of, chosen_by};
+ghost use Rattle.walk.specs.Following.{ChoiceGiven, StepGiven, Stepped, WalkGiven};
 
-use cells::costs::{costs_along, excess_on, go_on, keep_on};
+use cells::book::Book;
+use cells::costs::Costs;
 use cells::place::cell_at;
-use cells::timing::arrives;
-use lists::{fill_u8, fill_u32};
 use terms::Train;
 
-// Decisions as document 01 shows them.
-const KEEP: u8 = 1;
+// What a station decides.
+#[derive(Clone, Copy)]
+enum Choice {
+    Keep,
+    Go,
+}
 
-const GO: u8 = 0;
+impl Choice {
+    // As document 01 shows it.
+    fn byte(self) -> u8
+        ensures { result ≡ byte_of (decision_of self) }
+    {
+        match self {
+            Choice::Keep => 1,
+            Choice::Go => 0,
+        }
+    }
+}
 
 // The lesser choice, and keep when equal or where there is no excess.
 #[tactic(auto, using(line::proofs::Choices::prefer_of_go_less, line::proofs::Choices::prefer_of_keep_le))]
-fn prefer(excess: u64, keep: u64, go: u64) -> u8
-    ensures { result ≡ byte_of (prefer excess keep go) }
+fn prefer(excess: u64, keep: u64, go: u64) -> Choice
+    ensures { decision_of result ≡ prefer excess keep go }
 {
     if excess == 0 {
-        return KEEP;
+        return Choice::Keep;
     }
-    if go < keep { GO } else { KEEP }
+    if go < keep { Choice::Go } else { Choice::Keep }
 }
 
 // The choice at the station that `train` leaves, on the run from `first`, whose costs these are.
-fn choose(costs: &[u64], cells: &[u64], m: u32, first: Train, train: Train) -> u8
+#[tactic(auto, using(cells::proofs::Bounded::cell_le))]
+fn choose(costs: &Costs, cells: &[u64], m: u32, first: Train, train: Train) -> Choice
     requires { ChoiceGiven m first.0 train.0 costs.now cells.now }
-    ensures { result ≡ byte_of (chosen_by costs.now (table_of m cells.now)
-        first.0 train.0) }
+    ensures { decision_of result ≡ chosen_by costs.now (table_of m cells.now)
+        first.0 train.0 }
 {
     let station = train.leaves();
-    let keep = keep_on(costs, station) + cell_at(cells, m, first, train.reaches());
-    let go = go_on(costs, station) + cell_at(cells, m, train, station);
-    prefer(excess_on(costs, station), keep, go)
+    let cost = costs.on(station);
+    let keep = cost.keep + cell_at(cells, m, first, train.reaches());
+    let go = cost.go + cell_at(cells, m, train, station);
+    prefer(cost.excess, keep, go)
 }
 
-// What one station decides: the byte, the train that the run then begins with, and how late its
+// What one station decides: the choice, the train that the run then begins with, and how late its
 // train arrives.
 #[derive(Clone, Copy)]
 struct Step {
-    decision: u8,
+    choice: Choice,
     first: Train,
     late: u64,
 }
 
 // The step of `train`, on the run from `first`. Where it goes, the costs are worked along the run
 // that begins with it.
-fn decide_at(
-    costs: &mut [u64],
-    cells: &[u64],
-    m: u32,
-    first: Train,
-    train: Train,
-    timing: &[u32],
-    sums: &[u32],
-    boarding: &[u64],
-) -> Step
-    requires { StepGiven m first.0 train.0 costs.old cells.now timing.now sums.now
-        boarding.now }
-    ensures { Stepped (book_in m timing.now sums.now)
-        (table_of m cells.now) first.0 train.0 result.decision result.first.0
-        result.late costs.new }
+fn decide_at(costs: &mut Costs, cells: &[u64], book: &Book, first: Train, train: Train) -> Step
+    requires { StepGiven (book_held book.now) first.0 train.0 costs.old cells.now }
+    ensures { Stepped (book_held book.now)
+        (table_of book.now.m cells.now) first.0 train.0 (decision_of result.choice)
+        result.first.0 result.late costs.new }
 {
-    let decision = choose(costs, cells, m, first, train);
-    if decision == KEEP {
-        let excess = excess_on(costs, train.leaves());
-        return Step {
-            decision,
-            first,
-            late: arrives(timing, train, excess),
-        };
-    }
-    costs_along(costs, train, m, timing, sums, boarding);
-    Step {
-        decision,
-        first: train,
-        late: arrives(timing, train, 0),
+    let choice = choose(costs, cells, book.m, first, train);
+    match choice {
+        Choice::Keep => {
+            let excess = costs.on(train.leaves()).excess;
+            let late = book.timing.arrives(train, excess);
+            Step {
+                choice,
+                first,
+                late,
+            }
+        }
+        Choice::Go => {
+            book.costs_along(costs, train);
+            let late = book.timing.arrives(train, 0);
+            Step {
+                choice,
+                first: train,
+                late,
+            }
+        }
     }
 }
 
@@ -92,33 +104,25 @@ fn decide_at(
 pub fn follow(
     decisions: &mut [u8],
     delays: &mut [u32],
-    costs: &mut [u64],
+    costs: &mut Costs,
     cells: &[u64],
-    m: u32,
-    timing: &[u32],
-    sums: &[u32],
-    boarding: &[u64],
+    book: &Book,
 )
-    requires { WalkGiven m decisions.old delays.old costs.old cells.now timing.now
-        sums.now boarding.now }
-    ensures { Walked (book_in m timing.now sums.now)
-        (table_of m cells.now) decisions.new delays.new }
+    requires { WalkGiven book.now.m decisions.old delays.old cells.now }
+    ensures { Walked (book_held book.now)
+        (table_of book.now.m cells.now) decisions.new delays.new }
 {
-    fill_u8(decisions, 0);
-    fill_u32(delays, 0);
+    decisions.fill(0);
+    delays.fill(0);
     let mut first = Train(1);
-    costs_along(costs, first, m, timing, sums, boarding);
-    let late = arrives(timing, first, 0);
-    delays[first.index()] = late as u32;
-    let mut i = 2;
-    while i <= m {
+    book.costs_along(costs, first);
+    delays[first.index()] = book.timing.arrives(first, 0) as u32;
+    for i in 2..=book.m {
         let train = Train(i);
-        let step = decide_at(costs, cells, m, first, train, timing, sums, boarding);
+        let step = decide_at(costs, cells, book, first, train);
+        first = step.first;
         let k = train.index();
-        let begins = step.first;
-        first = begins;
-        decisions[k] = step.decision;
+        decisions[k] = step.choice.byte();
         delays[k] = step.late as u32;
-        i += 1;
     }
 }

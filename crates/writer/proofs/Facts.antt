@@ -2,7 +2,7 @@
 -- Assumes nothing.
 use mathlib.Core.Path.{◌≡◌}
 use Prim.Native.Nat.{ℕ}
-use Rattle.terms.specs.declared.Verdict.TheVariants.{Fine}
+use Rattle.terms.specs.Verdict.{Fine}
 use Rattle.terms.proofs.Checks.{then_fine, fine_then, passed_of_fine, fine_of_passed}
 use Rattle.sheet.proofs.Facts.{lengths_of_fine, fine_of_lengths, ranges_of_fine, fine_of_ranges, in_range_of_fine}
 use Rattle.sheet.proofs.Facts.{ranges_of_in_range, fine_of_in_range}

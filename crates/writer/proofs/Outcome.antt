@@ -7,10 +7,9 @@ use Prim.Native.Nat.{ℕ}
 use lib.ListN.{length, drop, take-append-drop}
 use lib.Seq.{take_at, drop_at}
 use Rattle.terms.specs.declared.Refusal.{Refusal}
-use Rattle.terms.specs.declared.Verdict.{Verdict}
-use Rattle.terms.specs.declared.Verdict.TheVariants.{Fine, Refused}
-use Rattle.terms.specs.declared.Answer.{Answer}
-use Rattle.terms.specs.declared.Answer.TheVariants.{Accepted, Refused as AnswerRefused}
+use Rattle.std.specs.Prelude.{Ok, Err}
+use Rattle.terms.specs.Verdict.{Verdict, Fine}
+use Rattle.terms.specs.Answer.{Answer}
 use Rattle.terms.specs.Answer.{answer_number, answer_place, answer_carries, answer_of}
 use Rattle.terms.proofs.Checks.{refused_not_fine, fine_or_refused}
 use Rattle.terms.proofs.Answers.{answer_number_lem, answer_place_lem, answer_carries_lem}
@@ -21,8 +20,8 @@ use Rattle.writer.specs.Write.{Given, numbers_given, write_verdict, Write, Write
 
 module _ (G : Given) (before : List ℕ) where
   -- a refusal changes nothing
-  pub write_refused : {r : Refusal} → Refused r ≡ write_verdict (length before) G
-      → Write G before before (AnswerRefused r)
+  pub write_refused : {r : Refusal} → Err r ≡ write_verdict (length before) G
+      → Write G before before (Err r)
   write_refused e =
       record {
         answer = ap (λ (v : Verdict). answer_of v (bytes_of G.trains)) e;
@@ -33,11 +32,11 @@ module _ (G : Given) (before : List ℕ) where
 
   -- the sheet stands in the first n bytes, and the rest is what it was
   pub write_accepted : {n : ℕ} {first : List ℕ} → n ≡ bytes_of G.trains → Fine ≡ write_verdict (length before) G
-      → SheetOf (numbers_given G) first → Write G before (first ++ drop n before) (Accepted n)
+      → SheetOf (numbers_given G) first → Write G before (first ++ drop n before) (Ok n)
   write_accepted {n} {first} p e h =
       let long : length first ≡ bytes_of G.trains = h.long in
       record {
-        answer = ap (λ (k : ℕ). Accepted k) p ∙ ap (λ (v : Verdict). answer_of v (bytes_of G.trains)) e;
+        answer = ap (λ (k : ℕ). Ok k) p ∙ ap (λ (v : Verdict). answer_of v (bytes_of G.trains)) e;
         sheet = λ fine. rw (take_at first (drop n before) (bytes_of G.trains) long) h;
         rest = λ fine. drop_at first (drop n before) (bytes_of G.trains) long ∙ ap (λ (k : ℕ). drop k before) p;
         unchanged = λ r q. refused_not_fine (sym q ∙ sym e);

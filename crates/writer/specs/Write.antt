@@ -10,9 +10,9 @@ use Rattle.std.specs.Prelude.{ℕ, ◌≡◌, List, [], ◌∷◌, length, take,
 use Rattle.terms.specs.declared.Refusal.{Refusal}
 use Rattle.terms.specs.declared.ListFault.TheVariants.{BufferLength, ListLength}
 use Rattle.terms.specs.declared.Refusal.TheVariants.{OfList}
-use Rattle.terms.specs.declared.Verdict.{Verdict}
-use Rattle.terms.specs.declared.Verdict.TheVariants.{Fine, Refused}
-use Rattle.terms.specs.declared.Answer.{Answer}
+use Rattle.std.specs.Prelude.{Err}
+use Rattle.terms.specs.Verdict.{Verdict, Fine}
+use Rattle.terms.specs.Answer.{Answer}
 use Rattle.terms.specs.Verdict.{verdict_of, ◌and_then◌, if_fine, number_in, place_in, refuse◌unless◌is◌}
 use Rattle.terms.specs.Answer.{answer_number, answer_place, answer_carries, answer_of}
 use Rattle.sheet.specs.Format.{bytes_of, pairs_of}
@@ -51,7 +51,7 @@ pub record Write (G : Given) (before after : List ℕ) (a : Answer) : Type 0 whe
   pub sheet : write_verdict (length before) G ≡ Fine → SheetOf (numbers_given G) (take (bytes_of G.trains) after)
   pub rest : write_verdict (length before) G ≡ Fine
       → drop (bytes_of G.trains) after ≡ drop (bytes_of G.trains) before
-  pub unchanged : (r : Refusal) → write_verdict (length before) G ≡ Refused r → after ≡ before
+  pub unchanged : (r : Refusal) → write_verdict (length before) G ≡ Err r → after ≡ before
 
 -- accepted answers carry number and place 0 and the length; refused ones number and place, and length 0
 pub record WriteTells (G : Given) (before : List ℕ) (a : Answer) : Type 0 where

@@ -4,4 +4,4 @@ use Rattle.plan.proofs.Head.{sheet_accepted}
 use Rattle.plan.proofs.main.Goals as goal
 
 pub trains-m-requires : goal.trains-m-requires
-trains-m-requires c = sheet_accepted _ c.plan-answer.ensures c.in-Accepted.is
+trains-m-requires c = sheet_accepted _ c.plan-answer.ensures c.in-Ok.is

@@ -1,5 +1,5 @@
 -- `reader::read` meets its contract: the lengths, then the sheet.
-use mathlib.Core.Path.{refl, sym, ◌∙◌}
+use Rattle.std.proofs.Common.{◌≡◌, refl, sym, ◌∙◌, Err, rules}
 use Rattle.terms.proofs.Checks.{then_stop}
 use Rattle.sheet.proofs.Facts.{lengths_of_fine}
 use Rattle.reader.specs.Read.{read_verdict}
@@ -7,12 +7,12 @@ use Rattle.reader.proofs.Stored.{read_refused}
 use Rattle.reader.proofs.read.Goals as goal
 
 -- a list has another length
-pub returns-in-Refused : goal.returns-in-Refused
+pub returns-in_err-check_lengths : goal.returns-in_err-check_lengths
 unfolding read_verdict
-returns-in-Refused c =
-    read_refused _ _ refl (then_stop _ _ refl (sym c.in-Refused.is ∙ c.check_lengths-lengths.ensures))
+returns-in_err-check_lengths c =
+    let refused : c.from_residual.result ≡ Err c.in_err-check_lengths.field-0.0 = search rules in
+    read_refused _ _ refused (then_stop _ _ refl (sym c.in_err-check_lengths.was ∙ c.check_lengths.ensures))
 
 -- the lengths passed
 pub read_sheet-requires : goal.read_sheet-requires
-read_sheet-requires c =
-    lengths_of_fine _ _ _ _ (sym c.check_lengths-lengths.ensures ∙ c.in_default.is)
+read_sheet-requires c = lengths_of_fine _ _ _ _ (sym c.check_lengths.ensures ∙ c.in_ok-check_lengths.was)

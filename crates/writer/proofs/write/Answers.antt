@@ -1,38 +1,38 @@
 -- `writer::write` meets its contract: all checks, then the sheet into the first bytes.
 use mathlib.Core.Path.{◌≡◌, sym, ◌∙◌}
 use Prim.Native.Nat.{◌≤◌}
-use native.Mathlib.Omega.{arith}
+use Rattle.std.proofs.Common.{arith, rules, Err}
 use lib.ListN.{length}
 use lib.Seq.{length-take-le}
-use Rattle.terms.specs.declared.Verdict.TheVariants.{Fine}
-use Rattle.sheet.specs.Numbers.{lists}
+use Rattle.terms.specs.Verdict.{Fine}
+use Rattle.sheet.specs.Held.{lent}
 use Rattle.sheet.proofs.Lengths.{bytes_le}
 use Rattle.writer.specs.Write.{given, write_verdict}
 use Rattle.writer.proofs.Facts.{accepts_of_fine}
 use Rattle.writer.proofs.Outcome.{write_refused, write_accepted}
 use Rattle.writer.proofs.write.Goals as goal
-use Rattle.writer.proofs.write.Goals.{After-bytes_of-n, In_default}
+use Rattle.writer.proofs.write.Goals.{After-bytes_of-n, In_ok-check_write}
 
 -- all checks passed
-fine : (c : In_default) →
+fine : (c : In_ok-check_write) →
     let a = c.args in
-    write_verdict (length a.sheet.now)
-    (given a.m a.period (lists a.departures.now a.driving.now a.delays.now a.passengers.now))
-    ≡ Fine
-fine c = sym c.check_write-verdict.ensures ∙ c.in_default.is
+    write_verdict (length a.sheet.now) (given a.head.trains a.head.period (lent a.numbers)) ≡ Fine
+fine c = sym c.check_write.ensures ∙ c.in_ok-check_write.was
 
 -- the sheet fits the buffer
 room : (c : After-bytes_of-n) → c.bytes_of-n.result ≤ length c.args.sheet.now
 room c =
-    let accepts = accepts_of_fine _ _ (sym c.check_write-verdict.ensures ∙ c.in_default.is) in
+    let accepts = accepts_of_fine _ _ (sym c.check_write.ensures ∙ c.in_ok-check_write.was) in
     omega (arith, c.bytes_of-n.ensures, accepts.room_is, bytes_le _ accepts.range.trains_most)
 
 -- refused
-pub returns-in-Refused : goal.returns-in-Refused
-returns-in-Refused c = write_refused _ _ (sym c.in-Refused.is ∙ c.check_write-verdict.ensures)
+pub returns-in_err-check_write : goal.returns-in_err-check_write
+returns-in_err-check_write c =
+    let same : c.from_residual.result ≡ Err c.in_err-check_write.field-0.0 = search rules in
+    rw same (write_refused _ _ (sym c.in_err-check_write.was ∙ c.check_write.ensures))
 
 pub bytes_of-n-requires : goal.bytes_of-n-requires
-bytes_of-n-requires c = (accepts_of_fine _ _ (fine (goal.at.bytes_of-n-requires c).In_default)).range.trains_most
+bytes_of-n-requires c = (accepts_of_fine _ _ (fine (goal.at.bytes_of-n-requires c).In_ok-check_write)).range.trains_most
 
 pub slice_bounds-put_sheet-end : goal.slice_bounds-put_sheet-end
 slice_bounds-put_sheet-end c = room (goal.at.slice_bounds-put_sheet-end c).After-bytes_of-n
@@ -44,7 +44,7 @@ slice_bounds-put_sheet-end-2 c =
 -- the first bytes are as many as the sheet has
 pub put_sheet-requires : goal.put_sheet-requires
 put_sheet-requires c =
-    let accepts = accepts_of_fine _ _ (fine (goal.at.put_sheet-requires c).In_default) in
+    let accepts = accepts_of_fine _ _ (fine (goal.at.put_sheet-requires c).In_ok-check_write) in
     record {
       long = length-take-le _ _ (room (goal.at.put_sheet-requires c).After-bytes_of-n) ∙ c.bytes_of-n.ensures;
       lengths = accepts.lengths;
@@ -54,4 +54,4 @@ put_sheet-requires c =
 -- accepted: the sheet stands first, the rest as it was
 pub returns : goal.returns
 returns c =
-    write_accepted _ _ c.bytes_of-n.ensures (sym (fine (goal.at.returns c).In_default)) c.put_sheet.ensures
+    write_accepted _ _ c.bytes_of-n.ensures (sym (fine (goal.at.returns c).In_ok-check_write)) c.put_sheet.ensures

@@ -1,8 +1,6 @@
 -- `limits::check_row` meets its contract, by the invariant that stands in Invariants.antt.
-use mathlib.Core.Path.{refl}
-use native.Mathlib.Omega.{arith}
-use Rattle.terms.proofs.Checks.{search_first, search_next, search_end, miss}
-use Rattle.terms.proofs.Checks.{no_more}
+use Rattle.std.proofs.Common.{refl, arith}
+use Rattle.terms.proofs.Checks.{search_first, search_next, search_last, miss, no_more}
 use Rattle.cells.specs.Limits.{cell_verdict, row_verdict}
 use Rattle.cells.proofs.limits.check_row.Goals as goal
 
@@ -22,7 +20,9 @@ loop-l-preserved c =
     search_next _ _ _ c.loop-l.invariant (omega arith) refl
     (miss _ _ _ _ _ (omega (arith, c.cell_at.ensures)) no_more)
 
--- every cell passed
-pub returns : goal.returns
-unfolding row_verdict
-returns c = search_end _ _ _ c.loop-l.invariant (omega arith)
+-- the last cell passed
+pub returns-else-cell_at-gt-LIMIT : goal.returns-else-cell_at-gt-LIMIT
+unfolding cell_verdict row_verdict
+returns-else-cell_at-gt-LIMIT c =
+    search_last _ _ _ c.loop-l.invariant (omega arith) refl
+    (miss _ _ _ _ _ (omega (arith, c.cell_at.ensures)) no_more)

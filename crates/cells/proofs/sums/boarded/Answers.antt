@@ -1,7 +1,5 @@
 -- `sums::boarded` meets its contract, by the invariant that stands in Invariants.antt.
-use mathlib.Core.Path.{◌≡◌, sym, ap, ◌∙◌}
-use Prim.Native.Nat.{◌+◌, ◌-◌, ◌≤◌}
-use native.Mathlib.Omega.{arith}
+use Rattle.std.proofs.Common.{◌≡◌, sym, ap, ◌∙◌, ◌+◌, ◌-◌, ◌≤◌, arith}
 use Rattle.line.specs.Ranges.{everyone}
 use Rattle.cells.specs.Sums.{boarded_in}
 use Rattle.cells.proofs.Leavers.{boarded_none, boarded_first, boarded_le}
@@ -16,13 +14,13 @@ counted : (c : After-leaving-sum) →
 counted c =
     let at_loop = c.loop-t in
     let first = boarded_first c.args.m c.args.sums.now c.args.from.0 at_loop.t in (
-      omega (arith, c.leaving-sum.ensures.0, at_loop.invariant.2, first at_loop.invariant.1),
-      boarded_le _ _ c.requires.0 _ at_loop.t c.requires.1 (omega (arith, c.requires.2)) at_loop.invariant.1,
+      omega (arith, c.leaving-sum.ensures.0, at_loop.invariant.1, first (omega arith)),
+      boarded_le _ _ c.requires.0 _ at_loop.t c.requires.1 (omega (arith, c.requires.2)) (omega arith),
     )
 
 -- nobody leaves after the last train
 pub loop-t-init : goal.loop-t-init
-loop-t-init c = (omega (arith, c.requires.3), omega arith, sym (boarded_none _ _ _ _ (omega arith)))
+loop-t-init c = (omega (arith, c.requires.3), sym (boarded_none _ _ _ _ (omega arith)))
 
 pub overflow_add-sum : goal.overflow_add-sum
 overflow_add-sum c = omega (arith, counted (goal.at.overflow_add-sum c).After-leaving-sum)
@@ -31,11 +29,10 @@ overflow_add-sum c = omega (arith, counted (goal.at.overflow_add-sum c).After-le
 pub loop-t-preserved : goal.loop-t-preserved
 loop-t-preserved c =
     let e : c.loop-t.t ≡ c.loop-t.t - 1 + 1 = omega arith in
-    (omega arith, omega arith, (counted (goal.at.loop-t-preserved c).After-leaving-sum).0 ∙ ap (boarded_in _ _ _) e)
+    (omega arith, (counted (goal.at.loop-t-preserved c).After-leaving-sum).0 ∙ ap (boarded_in _ _ _) e)
 
 -- no train is left
-pub returns : goal.returns
-returns c =
-    let at_loop = c.loop-t in
-    let e : at_loop.t + 1 ≡ c.args.train.0 = omega arith in
-    at_loop.invariant.2 ∙ ap (boarded_in _ _ _) e
+pub returns-2 : goal.returns-2
+returns-2 c =
+    let e : c.loop-t.t ≡ c.args.train.0 = omega arith in
+    (counted (goal.at.returns-2 c).After-leaving-sum).0 ∙ ap (boarded_in _ _ _) e

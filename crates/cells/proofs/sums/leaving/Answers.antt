@@ -1,6 +1,5 @@
 -- `sums::leaving` meets its contract: one number of the sums, and no more leave one train than board at all.
-use mathlib.Core.Path.{◌≡◌}
-use native.Mathlib.Omega.{arith}
+use Rattle.std.proofs.Common.{◌≡◌, arith, slice_index_or}
 use Rattle.cells.specs.Sums.{leaving_in}
 use Rattle.cells.proofs.Leavers.{leaving_le}
 use Rattle.cells.proofs.sums.leaving.Goals as goal
@@ -9,6 +8,6 @@ pub returns : goal.returns
 returns c =
     let p = c.requires in
     let most = leaving_le _ _ p.0 _ _ p.1 p.2 p.3 in
-    let held : c.wide.result ≡ leaving_in c.args.sums.now c.args.from.0 c.args.train.0 =
-    unfold leaving_in in rw (c.wide.ensures, c.place_of_sum.ensures.0) in
+    let held : slice_index_or c.args.sums.now c.place_of_sum.result 0 ≡ leaving_in c.args.sums.now c.args.from.0 c.args.train.0 =
+    unfold leaving_in in rw c.place_of_sum.ensures.0 in
     (held, omega arith)

@@ -1,35 +1,40 @@
 -- `settling::settle` meets its contract: the rows, what is read off them, the first cell.
-use mathlib.Core.Path.{◌∙◌}
-use native.Mathlib.Nat.{le_refl}
-use borrow.Author.Rules.{rules}
-use native.Mathlib.Omega.{arith}
+use Rattle.std.proofs.Common.{◌∙◌, le_refl, arith}
+use Rattle.cells.specs.Place.{RowsWorked}
+use Rattle.cells.specs.Book.{book_in}
 use Rattle.cells.proofs.Bounded.{worked_in_range}
 use Rattle.planner.proofs.settling.settle.Goals as goal
+use Rattle.planner.proofs.settling.settle.Goals.{After-work_rows}
+
+-- the book is that of the times and sums
+worked : (c : After-work_rows) →
+    let start = c.args in
+    RowsWorked (book_in start.m start.timing.now start.sums.now) start.last.0 start.cells.now c.work_rows.new.cells
+worked c =
+    let book = c.new-book.ensures in
+    rw (book.m, book.timing, book.sums) at c.work_rows.ensures
 
 -- the later rows' first cells are among their cells in use
 pub work_rows-requires : goal.work_rows-requires
 work_rows-requires c =
-    record {
-      given = c.requires.1;
-      boarders = c.boarders.ensures;
+    rw c.new-book.ensures.m
+    (record {
       last = c.requires.0.last;
       long = c.requires.0.lengths.cells;
-      long_costs = search rules;
       later = λ l a b. c.requires.0.later l l a (le_refl l) b;
-    }
+    })
 
 -- after the rows are worked every cell is in range
 pub follow-requires : goal.follow-requires
 follow-requires c =
-    record {
-      given = c.requires.1;
-      boarders = c.boarders.ensures;
+    let rows = worked (goal.at.follow-requires c).After-work_rows in
+    rw c.new-book.ensures.m
+    (record {
       long_decisions = c.requires.0.lengths.decisions;
       long_delays = c.requires.0.lengths.delays;
-      long_costs = search rules;
-      long = c.work_rows.ensures.long ∙ c.requires.0.lengths.cells;
-      range = worked_in_range _ _ _ c.requires.1 _ _ _ c.work_rows.ensures c.requires.0.later;
-    }
+      long = rows.long ∙ c.requires.0.lengths.cells;
+      range = worked_in_range _ _ _ c.requires.1 _ _ _ rows c.requires.0.later;
+    })
 
 -- cell (1, 1) is one of the line's
 pub cell_at-requires : goal.cell_at-requires
@@ -43,8 +48,9 @@ cell_at-requires c = (
 -- the total is the first cell
 pub returns : goal.returns
 returns c =
+    let book = c.new-book.ensures in
     record {
-      cells = c.work_rows.ensures;
-      walked = c.follow.ensures;
+      cells = worked (goal.at.returns c).After-work_rows;
+      walked = rw (book.m, book.timing, book.sums) at c.follow.ensures;
       total = rw c.leaves.ensures at c.cell_at.ensures;
     }

@@ -1,53 +1,56 @@
 -- `read_head` meets its contract: each answer is the first check that refuses.
-use mathlib.Core.Path.{◌≡◌, refl, sym, ap, ap₂, ◌∙◌}
-use native.Mathlib.Omega.{arith}
-use Rattle.terms.specs.declared.Verdict.TheVariants.{Fine}
+use Rattle.std.proofs.Common.{◌≡◌, refl, sym, ap, ap₂, ◌∙◌, arith, Err, rules}
+use Rattle.terms.specs.Verdict.{Fine}
 use Rattle.terms.proofs.Checks.{hit, miss, no_more, fine_of_passed, then_stop, then_pass}
 use Rattle.sheet.specs.Format.{trains_of, period_of, bytes_of}
 use Rattle.sheet.specs.Checks.{ranges_verdict, head_verdict}
 use Rattle.sheet.proofs.Facts.{ranges_of_fine}
-use Rattle.reader.proofs.ReadingOf.{reading_refused, reading_accepted}
+use Rattle.terms.proofs.Answers.{answer_refused}
+use Rattle.reader.proofs.ReadingOf.{reading_accepted}
 use Rattle.reader.proofs.decoding.read_head.Goals as goal
-use Rattle.reader.proofs.decoding.read_head.Goals.{After-bytes_of-n, After-check_ranges-ranges, In_default}
+use Rattle.reader.proofs.decoding.read_head.Goals.{After-bytes_of-n, After-check_ranges, In_ok-check_ranges}
 
 -- what is said of m and T is said of the sheet's
-ranges : (c : After-check_ranges-ranges) →
+ranges : (c : After-check_ranges) →
     let s = c.args.sheet.now in
-    c.check_ranges-ranges.result ≡ ranges_verdict (trains_of s) (period_of s)
+    c.check_ranges.result ≡ ranges_verdict (trains_of s) (period_of s)
 ranges c =
-    c.check_ranges-ranges.ensures ∙ ap₂ ranges_verdict c.field-m.ensures c.field-period.ensures
+    c.check_ranges.ensures ∙ ap₂ ranges_verdict c.field-trains.ensures c.field-period.ensures
 
 -- m and T passed
-passed : (c : In_default) →
+passed : (c : In_ok-check_ranges) →
     let s = c.args.sheet.now in
     ranges_verdict (trains_of s) (period_of s) ≡ Fine
 passed c =
-    sym (c.check_ranges-ranges.ensures ∙ ap₂ ranges_verdict c.field-m.ensures c.field-period.ensures) ∙ c.in_default.is
+    sym (c.check_ranges.ensures ∙ ap₂ ranges_verdict c.field-trains.ensures c.field-period.ensures) ∙ c.in_ok-check_ranges.was
 
 -- the length that m demands
 demanded : (c : After-bytes_of-n) →
     c.bytes_of-n.result ≡ bytes_of (trains_of c.args.sheet.now)
-demanded c = c.bytes_of-n.ensures ∙ ap bytes_of c.field-m.ensures
+demanded c = c.bytes_of-n.ensures ∙ ap bytes_of c.field-trains.ensures
 
 -- the sheet is under 3 bytes
 pub returns-then-sheet-lt3 : goal.returns-then-sheet-lt3
 unfolding head_verdict
-returns-then-sheet-lt3 c = reading_refused _ _ _ (then_stop _ _ refl (hit _ _ _ _ (omega arith)))
+returns-then-sheet-lt3 c = answer_refused _ _ (then_stop _ _ refl (hit _ _ _ _ (omega arith)))
 
 -- m or T is refused
-pub returns-in-Refused : goal.returns-in-Refused
+pub returns-in_err-check_ranges : goal.returns-in_err-check_ranges
 unfolding head_verdict
-returns-in-Refused c =
-    reading_refused _ _ _
+returns-in_err-check_ranges c =
+    let refused : c.from_residual.result ≡ Err c.in_err-check_ranges.field-0.0 = search rules in
+    rw refused
+    (answer_refused _ _
     (then_pass _ _ _ (fine_of_passed _ (omega arith, tt))
-    (then_stop _ _ refl (sym c.in-Refused.is ∙ ranges (goal.at.returns-in-Refused c).After-check_ranges-ranges)))
+    (then_stop _ _ refl
+    (sym c.in_err-check_ranges.was ∙ ranges (goal.at.returns-in_err-check_ranges c).After-check_ranges))))
 
 pub bytes_of-n-requires : goal.bytes_of-n-requires
 bytes_of-n-requires c =
     omega (
       arith,
-      (ranges_of_fine _ _ (passed (goal.at.bytes_of-n-requires c).In_default)).trains_most,
-      c.field-m.ensures,
+      (ranges_of_fine _ _ (passed (goal.at.bytes_of-n-requires c).In_ok-check_ranges)).trains_most,
+      c.field-trains.ensures,
     )
 
 -- the sheet is shorter than m demands
@@ -55,9 +58,9 @@ pub returns-then-sheet-n : goal.returns-then-sheet-n
 unfolding head_verdict
 returns-then-sheet-n c =
     let e = demanded (goal.at.returns-then-sheet-n c).After-bytes_of-n in
-    reading_refused _ _ _
+    answer_refused _ _
     (then_pass _ _ _ (fine_of_passed _ (omega arith, tt))
-    (then_pass _ _ _ (passed (goal.at.returns-then-sheet-n c).In_default)
+    (then_pass _ _ _ (passed (goal.at.returns-then-sheet-n c).In_ok-check_ranges)
     (hit _ _ _ _ (omega arith))))
 
 -- it is longer
@@ -65,9 +68,9 @@ pub returns-then-n-sheet : goal.returns-then-n-sheet
 unfolding head_verdict
 returns-then-n-sheet c =
     let e = demanded (goal.at.returns-then-n-sheet c).After-bytes_of-n in
-    reading_refused _ _ _
+    answer_refused _ _
     (then_pass _ _ _ (fine_of_passed _ (omega arith, tt))
-    (then_pass _ _ _ (passed (goal.at.returns-then-n-sheet c).In_default)
+    (then_pass _ _ _ (passed (goal.at.returns-then-n-sheet c).In_ok-check_ranges)
     (miss _ _ _ _ _ (omega arith)
     (hit _ _ _ _ (omega arith)))))
 
@@ -78,9 +81,9 @@ returns c =
     let e = demanded (goal.at.returns c).After-bytes_of-n in
     reading_accepted _
     (then_pass _ _ _ (fine_of_passed _ (omega arith, tt))
-    (then_pass _ _ _ (passed (goal.at.returns c).In_default)
+    (then_pass _ _ _ (passed (goal.at.returns c).In_ok-check_ranges)
     (miss _ _ _ _ _ (omega arith)
     (miss _ _ _ _ _ (omega arith)
     no_more))))
-    c.field-m.ensures
+    c.field-trains.ensures
     c.field-period.ensures

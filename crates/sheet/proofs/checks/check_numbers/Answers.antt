@@ -1,6 +1,5 @@
 -- `checks::check_numbers` meets its contract: the trains' refusal if there is one, else the passengers' verdict.
-use mathlib.Core.Path.{sym, ap, ◌∙◌}
-use native.Mathlib.Omega.{arith}
+use Rattle.std.proofs.Common.{◌≡◌, sym, ap, ◌∙◌, arith, rules}
 use Rattle.terms.specs.Verdict.{first_of}
 use Rattle.terms.proofs.Checks.{then_stop, then_pass}
 use Rattle.sheet.specs.Checks.{passengers_verdict, numbers_verdict}
@@ -8,9 +7,11 @@ use Rattle.sheet.proofs.Lengths.{pairs_le}
 use Rattle.sheet.proofs.checks.check_numbers.Goals as goal
 
 -- a train is refused
-pub returns-in-Refused : goal.returns-in-Refused
+pub returns-in_err-check_trains : goal.returns-in_err-check_trains
 unfolding numbers_verdict
-returns-in-Refused c = then_stop _ _ c.in-Refused.is c.check_trains-trains.ensures
+returns-in_err-check_trains c =
+    let same : c.from_residual.result ≡ c.check_trains.result = search rules in
+    rw same (then_stop _ _ c.in_err-check_trains.was c.check_trains.ensures)
 
 -- the list has room for the fields of m trains
 pub check_passengers-requires : goal.check_passengers-requires
@@ -22,5 +23,5 @@ check_passengers-requires c =
 pub returns : goal.returns
 unfolding numbers_verdict
 returns c =
-    then_pass _ _ _ (sym c.check_trains-trains.ensures ∙ c.in_default.is)
+    then_pass _ _ _ (sym c.check_trains.ensures ∙ c.in_ok-check_trains.was)
     (c.check_passengers.ensures ∙ ap (first_of (passengers_verdict _) 1) c.pairs_of.ensures)

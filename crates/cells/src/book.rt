@@ -1,0 +1,65 @@
+// What cells are worked from, as one value: a line's times, the sums of those who leave, and by
+// station those who board there or later. Its fields are in range and belong together.
+ghost use Rattle.cells.specs.Sums.{Boarders};
+ghost use Rattle.cells.specs.Book.{BookGiven};
+
+use crate::costs::{Cost, Costs};
+use crate::sums::{SUMS, boarders, leaving};
+use crate::timing::{Timing, cost};
+use terms::Train;
+
+#[derive(Drop)]
+pub struct Book<'a> {
+    pub m: u32,
+    pub timing: &'a Timing,
+    pub sums: &'a [u32; SUMS],
+    pub boarding: [u64; 64],
+    pub ghost given: { BookGiven m timing.now sums.now },
+    pub ghost boarders: { Boarders m sums.now boarding },
+}
+
+impl<'a> Book<'a> {
+    ghost use Rattle.std.specs.Prelude.{◌≡◌, ◌≤◌};
+    ghost use Rattle.cells.specs.Costs.{CostsAlong};
+    ghost use Rattle.cells.specs.Held.{book_held};
+
+    // Those who board are counted from the sums.
+    pub fn new(m: u32, timing: &'a Timing, sums: &'a [u32; SUMS]) -> Book<'a>
+        requires { BookGiven m timing.now sums.now }
+        ensures m { result.m ≡ m }
+        ensures timing { result.timing.now ≡ timing.now }
+        ensures sums { result.sums.now ≡ sums.now }
+    {
+        let boarding = boarders(sums, m);
+        Book {
+            m,
+            timing,
+            sums,
+            boarding,
+        }
+    }
+
+    // Fills the costs along the run that begins with `first` on time. `boarded` are those who board
+    // where it begins or later and leave this train or a later one: but for those who board here or
+    // later, they are aboard.
+    pub fn costs_along(&self, costs: &mut Costs, first: Train)
+        requires { (1 ≤ first.0) × (first.0 ≤ self.now.m) }
+        ensures { CostsAlong (book_held self.now) first.0 costs.new }
+    {
+        let from = first.leaves();
+        let mut late: u64 = 0;
+        let mut boarded = self.boarding[from.index()];
+        for i in first.0..=self.m {
+            let train = Train(i);
+            let station = train.leaves();
+            let excess = self.timing.excess_at(station, late);
+            late = self.timing.arrives(train, excess);
+            let leave = leaving(self.sums, self.m, from, train);
+            let keep = cost(leave, late);
+            let aboard = boarded - self.boarding[station.index()];
+            let go = cost(aboard, self.timing.period_at(station));
+            costs.put_costs(station, Cost { excess, keep, go });
+            boarded -= leave;
+        }
+    }
+}
