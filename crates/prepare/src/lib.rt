@@ -2,6 +2,7 @@
 // them of a sheet's numbers.
 #![tactic(auto)]
 
+mod fields;
 mod sums;
 mod times;
 
@@ -10,6 +11,7 @@ ghost use Rattle.terms.specs.Verdict.{◌and_then◌};
 ghost use Rattle.sheet.specs.Checks.{sheet_verdict};
 ghost use Rattle.prepare.specs.Prepared.{Prepared};
 
+use crate::fields::Fields;
 use crate::sums::sum_columns;
 use crate::times::fill_timing;
 use cells::sums::SUMS;
@@ -27,7 +29,7 @@ fn prepare_sheet(sheet: &[u8], timing: &mut Timing, sums: &mut [u32; SUMS]) -> R
     let mut columns = Columns::zeros();
     let head = decode(sheet, &mut columns)?;
     fill_timing(timing, head, columns.lists());
-    sum_columns(sums, &columns.passengers, head.trains);
+    sum_columns(sums, &Fields::new(head.trains, &columns.passengers));
     Ok(head)
 }
 

@@ -221,10 +221,10 @@ worked_end B t before cells diagonal i W e =
 
 -- ---- a row can be added up
 
-pub row_room : (m k : ℕ) (timing : Timing) (sums : List ℕ) (costs : Costs) (diagonal : List ℕ)
+pub row_room : (m k : ℕ) (timing : Timing) (sums : List ℕ) (costs : Costs) (diagonal : List ℕ) (n : ℕ)
     → BookGiven m timing sums → 1 ≤ k → k ≤ m → CostsAlong (book_in m timing sums) k costs
-    → ((l : ℕ) → 1 ≤ l → l ≤ m → nth diagonal l ≤ ceiling) → RowRoom k (m + 1 - k) costs diagonal
-row_room m k timing sums costs diagonal given pos last A small =
+    → ((l : ℕ) → 1 ≤ l → l ≤ m → nth diagonal l ≤ ceiling) → n ≡ m + 1 - k → RowRoom k n costs diagonal
+row_room m k timing sums costs diagonal n given pos last A small size =
     record {
       first = pos;
       last = omega (arith, given.times.trains);

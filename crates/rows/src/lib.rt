@@ -43,6 +43,7 @@ fn fill_row(row: &mut [u64], first: Train, costs: &Costs, diagonal: &[u64; 64])
 }
 
 // By station, the first cell of the row that begins there, for the rows after `last`.
+#[tactic(auto, using(lists::proofs::Held::held_set, lists::proofs::Held::nth_set_other))]
 fn diagonal_after(diagonal: &mut [u64; 64], cells: &[u64], m: u32, last: Train)
     requires { (last.0 ≤ m) × (m ≤ 64) × (length cells.now ≡ cell_count) }
     ensures { Diagonal m last.0 cells.now diagonal.old
@@ -57,6 +58,7 @@ fn diagonal_after(diagonal: &mut [u64; 64], cells: &[u64], m: u32, last: Train)
 
 // Works one row, lent as a part of the cells of its own, and answers its first cell. `costs` is
 // room to work in: what stands in it before does not count.
+#[tactic(auto, using(cells::proofs::Places::row_fits))]
 fn work_row(
     cells: &mut [u64],
     costs: &mut Costs,

@@ -27,16 +27,17 @@ fill_timing-requires c =
     rw (lent.departures, lent.driving, lent.delays)
     (train_given _ _ _ _ (decoded (goal.at.fill_timing-requires c).After-decode) blank _ c.in_ok-head.was)
 
-pub sum_columns-requires : goal.sum_columns-requires
-sum_columns-requires c =
-    fields_given _ _ _ _ (decoded (goal.at.sum_columns-requires c).After-decode) blank _ c.in_ok-head.was
+pub new-requires : goal.new-requires
+new-requires c =
+    fields_given _ _ _ _ (decoded (goal.at.new-requires c).After-decode) blank _ c.in_ok-head.was
 
 -- both are filled
 pub returns : goal.returns
 returns c =
     let lent = c.lists.ensures in
     prepared_accepted _ _ _ _ (decoded (goal.at.returns c).After-decode) blank _ c.in_ok-head.was _ _
-    (rw (lent.departures, lent.driving, lent.delays) at c.fill_timing.ensures) c.sum_columns.ensures
+    (rw (lent.departures, lent.driving, lent.delays) at c.fill_timing.ensures)
+    (rw (c.new.ensures.m, c.new.ensures.passengers) at c.sum_columns.ensures)
 
 -- the sheet is refused
 pub returns-in_err-head : goal.returns-in_err-head

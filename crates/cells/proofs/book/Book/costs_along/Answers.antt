@@ -4,7 +4,7 @@ use Rattle.lists.proofs.Held.{nth_index}
 use Rattle.line.specs.Ranges.{everyone}
 use Rattle.cells.specs.declared.book.Book.{Book as Holder}
 use Rattle.cells.specs.Sums.{boarded_in}
-use Rattle.cells.proofs.Along.{CostsTo, costs_start, costs_next, costs_end, turn_late, turn_boards, turn_leaves}
+use Rattle.cells.proofs.Along.{CostsTo, costs_next, costs_end, turn_boards, turn_leaves}
 use Rattle.cells.proofs.book.Book.costs_along.Goals as goal
 use Rattle.cells.proofs.book.Book.costs_along.Goals.{After-index-in-loop-i, After-put_costs}
 
@@ -36,21 +36,6 @@ next c =
     _ _ _ _ _ _ _
     (rw station at c.excess_at-excess.ensures) c.arrives-late.ensures c.leaving-leave.ensures.0 here
     (rw station at c.period_at.ensures) c.cost-keep.ensures.0 c.cost-go.ensures.0)
-
--- the run begins on time
-pub loop-i-init : goal.loop-i-init
-loop-i-init c =
-    let from = c.leaves-from.ensures in
-    let here = boards_at c.args.self.now c.index.result _ (rw from at c.index.ensures) c.requires.0 c.requires.1 in
-    rw from (costs_start _ _ _ _ _ _ (omega arith) here)
-
--- no more than everyone, no later than a train
-pub cost-keep-requires : goal.cost-keep-requires
-cost-keep-requires c =
-    let late = turn_late _ _ _ _ c.args.self.now.given _ _ _ _ c.loop-i.invariant (omega arith) (omega arith) (omega arith) in (
-      c.leaving-leave.ensures.1,
-      omega (arith, c.arrives-late.ensures, rw c.leaves-station.ensures at c.excess_at-excess.ensures),
-    )
 
 pub overflow_sub-aboard : goal.overflow_sub-aboard
 overflow_sub-aboard c = (boards (goal.at.overflow_sub-aboard c).After-index-in-loop-i).0
