@@ -17,7 +17,7 @@ use Rattle.sheet.specs.Format.{trains_of, period_of, departure_column, driving_c
 use Rattle.sheet.specs.Format.{entry, bytes_of, pairs_of}
 use Rattle.sheet.specs.Numbers.{Lists, numbers_of, numbers_in}
 use Rattle.sheet.specs.Checks.{head_verdict, sheet_verdict}
-use Rattle.sheet.specs.Accepted.{Lengths, SameNumbers}
+use Rattle.sheet.specs.Accepted.{SameNumbers}
 use Rattle.reader.specs.Reading.{reading_of}
 
 -- n places of the column lie in the sheet, and a list of `size` has room for them

@@ -27,8 +27,8 @@ fn read_head(sheet: &[u8]) -> Reading
     }
     let trains = field(sheet, TRAINS_AT, TRAINS_WIDTH);
     let period = field(sheet, PERIOD_AT, PERIOD_WIDTH);
-    let head = Head { trains, period };
-    check_ranges(head)?;
+    let claimed = Head { trains, period };
+    check_ranges(claimed)?;
     let n = bytes_of(trains as usize);
     if sheet.len() < n {
         return Err(Refusal::OfHead(HeadFault::TooShort));
@@ -36,7 +36,7 @@ fn read_head(sheet: &[u8]) -> Reading
     if n < sheet.len() {
         return Err(Refusal::OfHead(HeadFault::TooLong));
     }
-    Ok(head)
+    Ok(claimed)
 }
 
 // The first `n` places of `list` become those of the column.

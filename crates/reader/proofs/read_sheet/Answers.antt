@@ -1,9 +1,7 @@
 -- `read_sheet` meets its contract: a refused sheet changes nothing, an accepted one is copied.
-use Rattle.std.proofs.Common.{◌≡◌, Err, rules}
+use Rattle.std.proofs.Common.{◌≡◌, rules}
 use Rattle.sheet.specs.Numbers.{lists}
-use Rattle.sheet.specs.Held.{held}
-use Rattle.reader.specs.Decoded.{Decoded}
-use Rattle.reader.proofs.Stored.{zeros, read_of_refused, read_of_accepted}
+use Rattle.reader.proofs.Stored.{read_of_refused, read_of_accepted}
 use Rattle.reader.proofs.read_sheet.Goals as goal
 
 -- the sheet is refused
