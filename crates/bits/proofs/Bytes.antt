@@ -1,9 +1,8 @@
 -- One bit of one byte replaced, and bytes against their bits: lists of bytes of one length with equal bits are equal.
 -- Assumes nothing.
-use Rattle.std.proofs.Common.{◌≡◌, sym, subst, ◌∙◌, Bool, true, false, ◌&&◌, List, [], ◌∷◌, ℕ, zero, suc}
-use Rattle.std.proofs.Common.{◌+◌, ◌-◌, ◌*◌, ◌/◌, ◌%◌, ◌^◌, ◌≤◌, ◌<◌, mod-lt, div-one}
-use Rattle.std.proofs.Common.{zero-add, arith, T, ltb, ltb→lt, lit<, lit≤, length, get_or, shr-shr}
-use Rattle.std.proofs.Common.{ext_get_or, lt_of_le_of_lt, inl, inr, w8, bit_and, bit_or}
+use Rattle.std.proofs.Common.{◌≡◌, sym, subst, ◌∙◌, Bool, true, false, ◌&&◌, List, [], ◌∷◌, ℕ, zero, suc, ◌+◌, ◌-◌, ◌*◌}
+use Rattle.std.proofs.Common.{◌/◌, ◌%◌, ◌^◌, ◌≤◌, ◌<◌, mod-lt, div-one, zero-add, arith, T, ltb, ltb→lt, lit<, lit≤}
+use Rattle.std.proofs.Common.{length, get_or, shr-shr, ext_get_or, lt_of_le_of_lt, inl, inr, w8, bit_and, bit_or}
 use lib.Pow.{are_bytes}
 use Rattle.std.proofs.lemmas.Nat.{and_le_l, or_of_8}
 use Rattle.std.proofs.lemmas.Nat.Bits.{bit_at_clear_same, bit_at_clear_other, bit_at_set_same, bit_at_set_other, bit_at_above}

@@ -1,8 +1,8 @@
 -- Laws of fields, once over the width: one bit more, the range, two fields side by side, and fields against bits.
 -- Assumes nothing.
-use Rattle.std.proofs.Common.{◌≡◌, refl, ap₂, List, inl, inr, ℕ, zero, suc, ◌+◌, ◌*◌, ◌^◌, ◌≤◌, ◌<◌, mod-lt}
-use Rattle.std.proofs.Common.{pow-suc, add-suc, add-zero, add_assoc, mul_assoc, not-suc-le-zero}
-use Rattle.std.proofs.Common.{lt_of_lt_of_le, add-one, arith, lit<, length, pow_mono}
+use Rattle.std.proofs.Common.{◌≡◌, refl, ap₂, List, inl, inr, ℕ, zero, suc, ◌+◌, ◌*◌, ◌^◌, ◌≤◌, ◌<◌, mod-lt, pow-suc}
+use Rattle.std.proofs.Common.{add-suc, add-zero, add_assoc, mul_assoc, not-suc-le-zero, lt_of_lt_of_le, add-one, arith}
+use Rattle.std.proofs.Common.{lit<, length, pow_mono}
 use Rattle.std.proofs.lemmas.Bool.{cases_lt}
 use Rattle.bits.specs.Field.{bit_at, field_of, Within}
 

@@ -1,8 +1,8 @@
 -- Laws of a field that is put: fields apart from it stay, one bit, one bit more in front; and for a number that fits
 -- there is a result, and only one.
 -- Assumes nothing.
-use Rattle.std.proofs.Common.{◌≡◌, refl, sym, ap₂, subst, ◌∙◌, List, inl, inr, ℕ, zero, suc, ◌+◌, ◌-◌, ◌*◌, ◌/◌}
-use Rattle.std.proofs.Common.{◌%◌, ◌^◌, ◌≤◌, ◌<◌, mod-lt, div-add-mod', arith, pow_pos, shr_lt, length, get_or, set}
+use Rattle.std.proofs.Common.{◌≡◌, refl, sym, ap₂, subst, ◌∙◌, List, inl, inr, ℕ, zero, suc, ◌+◌, ◌-◌, ◌*◌, ◌/◌, ◌%◌}
+use Rattle.std.proofs.Common.{◌^◌, ◌≤◌, ◌<◌, mod-lt, div-add-mod', arith, pow_pos, shr_lt, length, get_or, set}
 use Rattle.std.proofs.Common.{length-set, get_or-set_same, get_or-set_other}
 use Rattle.std.proofs.lemmas.Bool.{cases_lt, cases_eq}
 use Rattle.bits.specs.Field.{bit_at, field_of, Apart, Put, BitPut, Bytes}

@@ -1,4 +1,4 @@
--- The book that a value of the code holds.
+-- The book that a value of the code holds. Document 01, "The working cells".
 --   book_held b   what cells are worked from, of its times and sums
 -- Assumes nothing.
 use Rattle.line.specs.Cells.{Book}

@@ -10,9 +10,8 @@
 use Rattle.std.specs.Prelude.{ℕ, ◌+◌, ◌-◌, ◌≤◌, ◌<◌, List, [], ◌∷◌}
 use Rattle.terms.specs.declared.ReportFault.TheVariants.{CellOverLimit}
 use Rattle.terms.specs.declared.Refusal.TheVariants.{OfReport}
-use Rattle.terms.specs.Verdict.{Verdict}
+use Rattle.terms.specs.Verdict.{Verdict, refuse◌when◌below◌, verdict_of, first_of}
 use Rattle.terms.specs.Refusal.{train}
-use Rattle.terms.specs.Verdict.{refuse◌when◌below◌, verdict_of, first_of}
 use Rattle.line.specs.Ranges.{limit}
 use Rattle.cells.specs.Place.{table_of}
 

@@ -14,13 +14,11 @@ use Rattle.terms.specs.declared.Refusal.{Refusal}
 use Rattle.terms.specs.declared.ListFault.TheVariants.{BufferLength}
 use Rattle.terms.specs.declared.Refusal.TheVariants.{OfList}
 use Rattle.std.specs.Prelude.{Err}
-use Rattle.terms.specs.Verdict.{Verdict, Fine}
-use Rattle.terms.specs.Answer.{Answer}
+use Rattle.terms.specs.Verdict.{Verdict, Fine, ◌and_then◌, number_in, place_in}
+use Rattle.terms.specs.Answer.{Answer, answer_number, answer_place, answer_carries}
 use Rattle.terms.specs.Refusal.{blanks_of}
-use Rattle.terms.specs.Verdict.{◌and_then◌, number_in, place_in}
 use Rattle.terms.proofs.Checks.{fine_or_refused}
 use Rattle.terms.proofs.Refusing.{zero_is_fine}
-use Rattle.terms.specs.Answer.{answer_number, answer_place, answer_carries}
 use Rattle.line.specs.Line.{Line, line_from}
 use Rattle.line.specs.Cells.{book_of}
 use Rattle.line.specs.Ranges.{limit, LineInRange}

@@ -8,14 +8,13 @@ use Prim.Native.Nat.{ℕ, ◌+◌, ◌≤◌, ◌<◌}
 use native.Mathlib.Nat.{le_refl}
 use native.Mathlib.Omega.{arith}
 use lib.ListN.{length, get_or, replicate, get_or-eq_default}
-use Rattle.std.specs.Prelude.{if◌then◌else◌}
+use Rattle.std.specs.Prelude.{if◌then◌else◌, Ok, Err}
 use Rattle.std.proofs.lemmas.Bool.{cond-false, cases_lt}
 use Rattle.lists.specs.Run.{listed, padded}
 use Rattle.lists.proofs.Run.{listed_length, listed_at}
 use Rattle.bits.specs.Field.{Bytes}
 use Rattle.bits.proofs.Puts.{puttable}
 use Rattle.terms.specs.declared.Refusal.{Refusal}
-use Rattle.std.specs.Prelude.{Ok, Err}
 use Rattle.terms.specs.Verdict.{Fine}
 use Rattle.terms.specs.Refusal.{blanks_of}
 use Rattle.terms.proofs.Checks.{refused_not_fine, fine_or_refused}

@@ -14,8 +14,7 @@ use Rattle.std.proofs.lemmas.Bool.{cases_lt}
 use Rattle.lists.proofs.Run.{listed_each, listed_padded, padded_same}
 use Rattle.std.specs.Prelude.{Ok}
 use Rattle.terms.specs.Verdict.{Verdict, Fine}
-use Rattle.terms.specs.Answer.{Answer}
-use Rattle.terms.specs.Answer.{answer_carries, answer_of}
+use Rattle.terms.specs.Answer.{Answer, answer_carries, answer_of}
 use Rattle.line.specs.Line.{Line, line_from}
 use Rattle.line.specs.Policy.{Decision, Keep, Policy, arrival, total}
 use Rattle.line.specs.Cells.{Table, book_of, Worked}

@@ -8,8 +8,7 @@ use native.Mathlib.Omega.{arith}
 use Rattle.lists.specs.Choice.{if_same}
 use Rattle.lists.specs.Run.{run_of, listed}
 use Rattle.bits.specs.Field.{bit_at, field_of}
-use Rattle.terms.specs.Answer.{Answer}
-use Rattle.terms.specs.Answer.{answer_number}
+use Rattle.terms.specs.Answer.{Answer, answer_number}
 use Rattle.line.specs.Line.{Line, line_from}
 use Rattle.line.specs.Alike.{LinesAlike}
 use Rattle.line.specs.Answers.{PlanAnswer, CaseAnswer}

@@ -1,7 +1,7 @@
 -- The round trips. What read leaves are the sheet's numbers and what write
 -- leaves is the sheet of its numbers, and the sheet of given numbers is unique.
 -- Assumes nothing.
-use Rattle.terms.specs.Answer.{head}
+use Rattle.terms.specs.Answer.{head, Answer, answer_of}
 use mathlib.Core.Path.{◌≡◌, refl, sym, ap, ap₂, subst, ◌∙◌}
 use mathlib.Core.List.{List}
 use Prim.Native.Nat.{ℕ, ◌+◌, ◌-◌, ◌≤◌}
@@ -13,10 +13,8 @@ use Rattle.lists.proofs.Run.{padded_length, padded_nth}
 use Rattle.bits.specs.Field.{Bytes}
 use Rattle.std.specs.Prelude.{Ok}
 use Rattle.terms.specs.Verdict.{Verdict, Fine}
-use Rattle.terms.specs.Answer.{Answer}
-use Rattle.reader.specs.Reading.{Reading}
+use Rattle.reader.specs.Reading.{Reading, reading_of}
 use Rattle.terms.proofs.Checks.{then_fine, fine_then}
-use Rattle.terms.specs.Answer.{answer_of}
 use Rattle.terms.proofs.Answers.{accepted_answer}
 use Rattle.sheet.specs.Format.{trains_of, period_of, departure_of, driving_of, delay_of}
 use Rattle.sheet.specs.Format.{passengers_of, bytes_of, pairs_of}
@@ -28,7 +26,6 @@ use Rattle.sheet.proofs.Facts.{fine_of_lengths, accepted_of_fine, fine_of_accept
 use Rattle.sheet.proofs.Meaning.{same_sym, in_range_same, sheet_of_one, sheet_of_accepted, accepted_sheet_of}
 use Rattle.writer.specs.Write.{Given, numbers_given, write_verdict, Write, Accepts}
 use Rattle.writer.proofs.Facts.{accepts_of_fine, fine_of_accepts}
-use Rattle.reader.specs.Reading.{reading_of}
 use Rattle.reader.specs.Read.{read_verdict, Read}
 use Rattle.reader.proofs.ReadingOf.{accepted_reading}
 use Rattle.demands.specs.OneMeaning.{given_from, ReadThenWrite, WriteThenRead, EqualFields}

@@ -11,12 +11,10 @@ use native.Mathlib.Omega.{arith}
 use lib.ListN.{get_or}
 use Rattle.terms.specs.declared.Refusal.{Refusal}
 use Rattle.std.specs.Prelude.{Ok, Err}
-use Rattle.terms.specs.Verdict.{Verdict, Fine}
-use Rattle.terms.specs.Answer.{Answer}
-use Rattle.terms.specs.Verdict.{number_in}
+use Rattle.terms.specs.Verdict.{Verdict, Fine, number_in}
+use Rattle.terms.specs.Answer.{Answer, answer_number, answer_carries, answer_of}
 use Rattle.terms.proofs.Checks.{refused_not_fine, fine_or_refused}
 use Rattle.terms.proofs.Refusing.{Only, only_of, only_then}
-use Rattle.terms.specs.Answer.{answer_number, answer_carries, answer_of}
 use Rattle.line.specs.Line.{Line, line_from}
 use Rattle.line.specs.Cells.{Table, Book, book_of, Worked}
 use Rattle.line.proofs.Alike.{books_of_lines}

@@ -6,8 +6,7 @@ use native.Mathlib.Omega.{arith}
 use Rattle.lists.specs.Choice.{if_below}
 use Rattle.lists.specs.Run.{run_of, listed}
 use Rattle.bits.specs.Field.{bit_at, field_of}
-use Rattle.terms.specs.Verdict.{Fine}
-use Rattle.terms.specs.Verdict.{verdict_of, ◌and_then◌, first_of}
+use Rattle.terms.specs.Verdict.{Fine, verdict_of, ◌and_then◌, first_of}
 use Rattle.line.specs.Line.{line_from}
 use Rattle.line.specs.Alike.{LinesAlike}
 use Rattle.line.specs.Answers.{PlanAnswer}

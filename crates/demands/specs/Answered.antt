@@ -9,12 +9,11 @@
 --   Demand1 C                 the demand
 -- Everywhere x is what is lent beside sheet and buffers.
 -- Assumes nothing.
-use Rattle.std.specs.Prelude.{ℕ, ◌≤◌, ◌<◌, ◌≡◌, List, ◌⊎◌, length, get_or}
+use Rattle.std.specs.Prelude.{ℕ, ◌≤◌, ◌<◌, ◌≡◌, List, ◌⊎◌, length, get_or, Err}
 use Rattle.bits.specs.Field.{Bytes}
 use Rattle.terms.specs.declared.Refusal.{Refusal}
 use Rattle.terms.specs.declared.ReportFault.TheVariants.{NoSuchTrain, NewDelay, CellOverLimit}
 use Rattle.terms.specs.declared.Refusal.TheVariants.{OfReport}
-use Rattle.std.specs.Prelude.{Err}
 use Rattle.terms.specs.Verdict.{Verdict}
 use Rattle.terms.specs.Refusal.{train, number_of, place_of}
 use Rattle.line.specs.Ranges.{limit}

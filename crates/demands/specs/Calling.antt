@@ -5,8 +5,7 @@
 --   operations    the operations themselves: nothing more is lent
 -- Assumes nothing.
 use Rattle.std.specs.Prelude.{ℕ, List}
-use Rattle.terms.specs.Answer.{Answer}
-use Rattle.terms.specs.Answer.{answer_number, answer_place, answer_carries}
+use Rattle.terms.specs.Answer.{Answer, answer_number, answer_place, answer_carries}
 use Rattle.planner.specs.Buffers.{Buffers, RightLengths}
 use Rattle.planner.specs.Plan.{Plan}
 use Rattle.planner.specs.Report.{Report}

@@ -5,12 +5,10 @@
 --   EqualFields     two accepted sheets with equal fields are equal
 --   OneMeaning      all three
 -- Assumes nothing.
-use Rattle.terms.specs.Answer.{head}
-use Rattle.std.specs.Prelude.{ℕ, ◌≡◌, List, length, take}
+use Rattle.terms.specs.Answer.{head, Answer}
+use Rattle.std.specs.Prelude.{ℕ, ◌≡◌, List, length, take, Ok}
 use Rattle.bits.specs.Field.{Bytes}
-use Rattle.std.specs.Prelude.{Ok}
 use Rattle.terms.specs.Verdict.{Fine}
-use Rattle.terms.specs.Answer.{Answer}
 use Rattle.reader.specs.Reading.{Reading}
 use Rattle.sheet.specs.Format.{pairs_of}
 use Rattle.sheet.specs.Numbers.{Lists, lists, numbers_of}

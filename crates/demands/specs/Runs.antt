@@ -9,12 +9,11 @@
 --   Demand3 C                   the demand
 -- Everywhere x is what is lent beside sheet and buffers.
 -- Assumes nothing.
-use Rattle.std.specs.Prelude.{ℕ, ◌≤◌, ◌≡◌, List, ◌⊎◌, get_or}
+use Rattle.std.specs.Prelude.{ℕ, ◌≤◌, ◌≡◌, List, ◌⊎◌, get_or, Err}
 use Rattle.terms.specs.declared.Refusal.{Refusal}
 use Rattle.terms.specs.declared.ListFault.TheVariants.{BufferLength}
 use Rattle.terms.specs.declared.ReportFault.TheVariants.{NoSuchTrain, NewDelay}
 use Rattle.terms.specs.declared.Refusal.TheVariants.{OfList, OfReport}
-use Rattle.std.specs.Prelude.{Err}
 use Rattle.terms.specs.Refusal.{train}
 use Rattle.sheet.specs.Format.{trains_of}
 use Rattle.sheet.specs.Accepted.{AcceptedSheet, DelayReplaced}

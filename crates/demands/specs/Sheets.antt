@@ -10,9 +10,8 @@
 --   ReportAfterB4                the report of case b7, after the plan of case b4
 --   AnswersB7, AnswersB8         of cases b7 and b8
 -- Assumes nothing.
-use Rattle.std.specs.Prelude.{ℕ, ◌≤◌, ◌≡◌, List, [], ◌∷◌, map, get_or}
+use Rattle.std.specs.Prelude.{ℕ, ◌≤◌, ◌≡◌, List, [], ◌∷◌, map, get_or, Ok}
 use Rattle.lists.specs.Run.{nth, padded}
-use Rattle.std.specs.Prelude.{Ok}
 use Rattle.terms.specs.Answer.{Answer}
 use Rattle.line.specs.Answers.{table_from, CaseAnswer}
 use Rattle.line.specs.Cases.{a as case_a, b4, b6, b7, b8}

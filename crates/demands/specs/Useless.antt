@@ -12,13 +12,12 @@
 --   WritesEarlyBreaks    one that writes the sheet before it tests 12: with a later cell over the limit the report of
 --                        b7 is refused with 12, at the first such row, and leaves sheet B as it was
 -- Assumes nothing.
-use Rattle.std.specs.Prelude.{ℕ, ◌≡◌, List, replicate}
+use Rattle.std.specs.Prelude.{ℕ, ◌≡◌, List, replicate, Err}
 use Rattle.lists.specs.Run.{nth, padded}
 use Rattle.terms.specs.declared.Refusal.{Refusal}
 use Rattle.terms.specs.declared.ReportFault.TheVariants.{CellOverLimit}
 use Rattle.terms.specs.declared.Refusal.TheVariants.{OfReport}
 use Rattle.terms.specs.Refusal.{train}
-use Rattle.std.specs.Prelude.{Err}
 use Rattle.terms.specs.Answer.{Answer}
 use Rattle.line.specs.Policy.{Keep}
 use Rattle.line.specs.Cases.{b4}

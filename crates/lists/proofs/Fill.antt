@@ -1,8 +1,9 @@
 -- Laws of a list that a loop fills from its first place on:
 -- the start, one place more, and the list once all are filled.
 -- Assumes nothing.
-use Rattle.std.proofs.Common.{◌≡◌, refl, sym, ap, ◌∙◌, List, ℕ, ◌+◌, ◌-◌, ◌≤◌, ◌<◌, not-suc-le-zero, arith, length, get_or}
-use Rattle.std.proofs.Common.{set, length-set, replicate, ext_get_or, get_or-set_same, get_or-set_other, below_more, inl, inr}
+use Rattle.std.proofs.Common.{◌≡◌, refl, sym, ap, ◌∙◌, List, ℕ, ◌+◌, ◌-◌, ◌≤◌, ◌<◌, not-suc-le-zero, arith, length}
+use Rattle.std.proofs.Common.{get_or, set, length-set, replicate, ext_get_or, get_or-set_same, get_or-set_other}
+use Rattle.std.proofs.Common.{below_more, inl, inr}
 use Rattle.std.proofs.lemmas.Bool.{cases_lt}
 use Rattle.std.proofs.lemmas.List.{length-replicate, get_or-replicate, get_or_past}
 use Rattle.lists.specs.Run.{padded}

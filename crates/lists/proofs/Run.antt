@@ -2,8 +2,8 @@
 -- equal places; and of the lists made of a run. A loop states what it has still to
 -- do as a run that equals its goal: `run_next` is its turn, `run_none` its end.
 -- Assumes nothing.
-use Rattle.std.proofs.Common.{◌≡◌, refl, sym, ap, ap₂, subst, ◌∙◌, List, ℕ, zero, suc, ◌+◌, ◌-◌, ◌≤◌, ◌<◌}
-use Rattle.std.proofs.Common.{inl, inr, not-suc-le-zero, le_of_suc-le-suc, add-zero, arith, length, get_or, ext_get_or}
+use Rattle.std.proofs.Common.{◌≡◌, refl, sym, ap, ap₂, subst, ◌∙◌, List, ℕ, zero, suc, ◌+◌, ◌-◌, ◌≤◌, ◌<◌, inl, inr}
+use Rattle.std.proofs.Common.{not-suc-le-zero, le_of_suc-le-suc, add-zero, arith, length, get_or, ext_get_or}
 use Rattle.std.proofs.lemmas.Bool.{cases_lt}
 use Rattle.std.proofs.lemmas.List.{get_or_past}
 use Rattle.lists.specs.Run.{run_of, listed, padded, nth}

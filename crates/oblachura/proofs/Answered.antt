@@ -12,8 +12,7 @@ use Rattle.lists.specs.Run.{nth}
 use Rattle.std.proofs.lemmas.Bool.{cases_eq}
 use Rattle.terms.specs.declared.Refusal.{Refusal}
 use Rattle.terms.specs.Verdict.{Verdict}
-use Rattle.terms.specs.Answer.{Answer}
-use Rattle.terms.specs.Answer.{answer_number, answer_place, answer_carries}
+use Rattle.terms.specs.Answer.{Answer, answer_number, answer_place, answer_carries}
 use Rattle.planner.specs.Buffers.{Buffers}
 use Rattle.planner.specs.Plan.{Plan}
 use Rattle.planner.specs.Report.{Report}

@@ -9,9 +9,8 @@ use lib.ListN.{length}
 use Rattle.std.proofs.lemmas.Bool.{cases_eq}
 use Rattle.terms.specs.declared.ListFault.TheVariants.{BufferLength}
 use Rattle.terms.specs.declared.Refusal.TheVariants.{OfList}
-use Rattle.terms.specs.Verdict.{Verdict}
+use Rattle.terms.specs.Verdict.{Verdict, number_in, place_in}
 use Rattle.terms.specs.Refusal.{number_of}
-use Rattle.terms.specs.Verdict.{number_in, place_in}
 use Rattle.terms.proofs.Refusing.{zero_is_fine}
 use Rattle.oblachura.specs.Call.{Told, Call}
 use Rattle.oblachura.specs.CallPromises.{One, Returns}

@@ -6,10 +6,8 @@ use mathlib.Core.Logic.{inl, inr}
 use mathlib.Core.List.{List, ◌∷◌, []}
 use lib.ListN.{length}
 use Rattle.std.proofs.lemmas.Bool.{cases_eq}
-use Rattle.terms.specs.Verdict.{Verdict}
-use Rattle.terms.specs.Answer.{Answer}
-use Rattle.terms.specs.Verdict.{number_in, place_in}
-use Rattle.terms.specs.Answer.{answer_number, answer_carries}
+use Rattle.terms.specs.Verdict.{Verdict, number_in, place_in}
+use Rattle.terms.specs.Answer.{Answer, answer_number, answer_carries}
 use Rattle.terms.proofs.Checks.{fine_or_refused, if_fine_lem, if_refused}
 use Rattle.line.specs.Line.{line_from}
 use Rattle.writer.proofs.Outcome.{write_one, write_tells}

@@ -11,8 +11,7 @@ use Rattle.bits.specs.Field.{Bytes}
 use Rattle.terms.specs.declared.ListFault.TheVariants.{BufferLength}
 use Rattle.terms.specs.declared.Refusal.TheVariants.{OfList}
 use Rattle.terms.specs.Refusal.{number_of}
-use Rattle.terms.specs.Answer.{Answer}
-use Rattle.terms.specs.Answer.{answer_number, answer_place}
+use Rattle.terms.specs.Answer.{Answer, answer_number, answer_place}
 use Rattle.sheet.specs.Accepted.{AcceptedSheet}
 use Rattle.sheet.specs.Numbers.{numbers_of}
 use Rattle.prepare.specs.LineOf.{line_of}

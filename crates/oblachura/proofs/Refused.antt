@@ -5,11 +5,9 @@ use native.Mathlib.Omega.{arith}
 use mathlib.Core.Path.{◌≡◌, ap, sym, ◌∙◌}
 use mathlib.Core.Logic.{inl, inr}
 use Rattle.terms.specs.declared.Refusal.{Refusal}
-use Rattle.terms.specs.Verdict.{Verdict}
-use Rattle.terms.specs.Answer.{Answer}
+use Rattle.terms.specs.Verdict.{Verdict, number_in}
+use Rattle.terms.specs.Answer.{Answer, answer_number}
 use Rattle.terms.specs.Refusal.{number_of}
-use Rattle.terms.specs.Verdict.{number_in}
-use Rattle.terms.specs.Answer.{answer_number}
 use Rattle.terms.proofs.Checks.{fine_or_refused}
 use Rattle.terms.proofs.Refusing.{numbered}
 use Rattle.planner.specs.Buffers.{Buffers, RefusedFor}

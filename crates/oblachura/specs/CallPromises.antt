@@ -8,8 +8,7 @@
 --   CallPromises                 all of it, of each call
 -- Assumes nothing.
 use Rattle.std.specs.Prelude.{ℕ, ◌≡◌, List, ◌∷◌, [], length}
-use Rattle.terms.specs.Verdict.{Verdict, Fine}
-use Rattle.terms.specs.Verdict.{if_fine, number_in, place_in}
+use Rattle.terms.specs.Verdict.{Verdict, Fine, if_fine, number_in, place_in}
 use Rattle.line.specs.Policy.{total}
 use Rattle.sheet.specs.Format.{trains_of, period_of, bytes_of}
 use Rattle.sheet.specs.Numbers.{Lists, numbers_of}

@@ -9,11 +9,9 @@
 -- list and stored are the list for the answer before and after the call, r is what the call returns.
 -- Assumes nothing.
 use Rattle.std.specs.Prelude.{ℕ, List}
-use Rattle.terms.specs.Answer.{Answer}
-use Rattle.terms.specs.Answer.{answer_number}
+use Rattle.terms.specs.Answer.{Answer, answer_number}
 use Rattle.sheet.specs.Numbers.{Lists}
 use Rattle.writer.specs.Write.{Given, Write}
-use Rattle.terms.specs.Answer.{answer_number}
 use Rattle.reader.specs.Read.{Read}
 use Rattle.planner.specs.Buffers.{Buffers}
 use Rattle.planner.specs.Plan.{Plan}

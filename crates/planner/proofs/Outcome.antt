@@ -7,18 +7,15 @@ use mathlib.Core.List.{List}
 use mathlib.Core.Logic.{◌⊎◌, inl, inr}
 use Prim.Native.Nat.{ℕ, ◌≤◌}
 use lib.ListN.{length, replicate}
-use Rattle.std.specs.Prelude.{if◌then◌else◌}
+use Rattle.std.specs.Prelude.{if◌then◌else◌, Ok, Err}
 use Rattle.lists.specs.Run.{padded}
 use Rattle.std.proofs.lemmas.Bool.{cases_Bool, cond-true, cond-false}
 use Rattle.lists.proofs.Run.{padded_same}
 use Rattle.bits.proofs.Puts.{put_unique}
 use Rattle.terms.specs.declared.Refusal.{Refusal}
-use Rattle.std.specs.Prelude.{Ok, Err}
-use Rattle.terms.specs.Verdict.{Verdict, Fine}
-use Rattle.terms.specs.Answer.{Answer}
+use Rattle.terms.specs.Verdict.{Verdict, Fine, number_in, place_in}
+use Rattle.terms.specs.Answer.{Answer, answer_number, answer_place, answer_carries, answer_of}
 use Rattle.terms.specs.Refusal.{blanks_of}
-use Rattle.terms.specs.Verdict.{number_in, place_in}
-use Rattle.terms.specs.Answer.{answer_number, answer_place, answer_carries, answer_of}
 use Rattle.terms.proofs.Checks.{refused_not_fine, fine_or_refused}
 use Rattle.terms.proofs.Answers.{answer_number_lem, answer_place_lem}
 use Rattle.line.specs.Line.{Line, line_from}

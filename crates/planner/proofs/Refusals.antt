@@ -11,9 +11,8 @@ use Rattle.terms.specs.declared.ListFault.TheVariants.{BufferLength}
 use Rattle.terms.specs.declared.Refusal.{Refusal}
 use Rattle.terms.specs.declared.Refusal.TheVariants.{OfList}
 use Rattle.std.specs.Prelude.{Err}
-use Rattle.terms.specs.Verdict.{Verdict, Fine}
+use Rattle.terms.specs.Verdict.{Verdict, Fine, ◌and_then◌}
 use Rattle.terms.specs.Refusal.{blanks_of}
-use Rattle.terms.specs.Verdict.{◌and_then◌}
 use Rattle.terms.proofs.Checks.{fine_or_refused, then_stop, then_pass, then_fine, fine_then}
 use Rattle.terms.proofs.Checks.{passed_of_fine, fine_of_passed}
 use Rattle.terms.proofs.Refusing.{only_refused, only_of, only_then}

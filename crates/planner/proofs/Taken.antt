@@ -3,9 +3,8 @@
 -- Assumes nothing.
 use Rattle.std.proofs.Common.{◌≡◌, refl, ap, sym, subst, ◌∙◌, List, ℕ}
 use Rattle.std.specs.Prelude.{Ok}
-use Rattle.terms.specs.Verdict.{Verdict, Fine}
+use Rattle.terms.specs.Verdict.{Verdict, Fine, ◌and_then◌}
 use Rattle.reader.specs.Reading.{Reading}
-use Rattle.terms.specs.Verdict.{◌and_then◌}
 use Rattle.line.specs.Cells.{book_of}
 use Rattle.sheet.specs.Format.{trains_of, period_of}
 use Rattle.sheet.specs.Numbers.{Numbers}

@@ -11,9 +11,8 @@ use Rattle.std.specs.Prelude.{ℕ, ◌≡◌, true, false, List, [], ◌∷◌, 
 use Rattle.terms.specs.declared.ListFault.TheVariants.{BufferLength}
 use Rattle.terms.specs.declared.Refusal.{Refusal}
 use Rattle.terms.specs.declared.Refusal.TheVariants.{OfList}
-use Rattle.terms.specs.Verdict.{Verdict}
+use Rattle.terms.specs.Verdict.{Verdict, refuse◌unless◌is◌, verdict_of}
 use Rattle.terms.specs.Refusal.{blanks_of}
-use Rattle.terms.specs.Verdict.{refuse◌unless◌is◌, verdict_of}
 use Rattle.cells.specs.Place.{cell_count}
 
 pub record Buffers : Type 0 where

@@ -3,12 +3,10 @@
 --   Outcome checks Stored before after a   what the checks say of the answer a and of what is left; Stored n is what
 --                                          an accepted call leaves that answers the total n
 -- Assumes nothing.
-use Rattle.std.specs.Prelude.{ℕ, ◌≡◌}
+use Rattle.std.specs.Prelude.{ℕ, ◌≡◌, Err}
 use Rattle.terms.specs.declared.Refusal.{Refusal}
-use Rattle.std.specs.Prelude.{Err}
 use Rattle.terms.specs.Verdict.{Verdict, Fine}
-use Rattle.terms.specs.Answer.{Answer}
-use Rattle.terms.specs.Answer.{answer_carries, answer_of}
+use Rattle.terms.specs.Answer.{Answer, answer_carries, answer_of}
 use Rattle.planner.specs.Buffers.{Buffers, RefusedFor}
 
 pub record Outcome (checks : Verdict) (Stored : ℕ → Type 0) (before after : Buffers) (a : Answer) : Type 0 where

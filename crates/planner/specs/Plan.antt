@@ -5,9 +5,8 @@
 -- Assumes nothing.
 use Rattle.std.specs.Prelude.{◌≡◌, List, ℕ}
 use Rattle.lists.specs.Run.{padded}
-use Rattle.terms.specs.Verdict.{Verdict}
+use Rattle.terms.specs.Verdict.{Verdict, ◌and_then◌}
 use Rattle.terms.specs.Answer.{Answer}
-use Rattle.terms.specs.Verdict.{◌and_then◌}
 use Rattle.line.specs.Line.{Line}
 use Rattle.line.specs.Policy.{Policy, arrival, total}
 use Rattle.line.specs.Plan.{IsPlan}

@@ -4,12 +4,10 @@
 --   Reported s i v before t after n   what an accepted report leaves that answers the total n
 --   Report s i v before t after a     what report answers, and what it leaves of sheet and buffers
 -- Assumes nothing.
-use Rattle.std.specs.Prelude.{ℕ, ◌≡◌, List}
+use Rattle.std.specs.Prelude.{ℕ, ◌≡◌, List, Err}
 use Rattle.terms.specs.declared.Refusal.{Refusal}
-use Rattle.std.specs.Prelude.{Err}
-use Rattle.terms.specs.Verdict.{Verdict}
+use Rattle.terms.specs.Verdict.{Verdict, ◌and_then◌}
 use Rattle.terms.specs.Answer.{Answer}
-use Rattle.terms.specs.Verdict.{◌and_then◌}
 use Rattle.line.specs.Cells.{book_of}
 use Rattle.sheet.specs.Format.{trains_of}
 use Rattle.sheet.specs.Numbers.{numbers_of}

@@ -6,9 +6,8 @@
 use Rattle.std.specs.Prelude.{ℕ, ◌≤◌, List, [], ◌∷◌}
 use Rattle.terms.specs.declared.ReportFault.TheVariants.{NoSuchTrain, NewDelay}
 use Rattle.terms.specs.declared.Refusal.TheVariants.{OfReport}
-use Rattle.terms.specs.Verdict.{Verdict}
+use Rattle.terms.specs.Verdict.{Verdict, Check, refuse◌when◌below◌, verdict_of, ◌and_then◌}
 use Rattle.terms.specs.Refusal.{train}
-use Rattle.terms.specs.Verdict.{Check, refuse◌when◌below◌, verdict_of, ◌and_then◌}
 use Rattle.cells.specs.Limits.{LaterInRange, later_verdict}
 
 -- train is 0 or over m; new delay over 1,440

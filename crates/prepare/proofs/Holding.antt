@@ -1,4 +1,4 @@
--- Lists that hold the times and the sums of a line: one train more, one source delay replaced, and the same numbers.
+-- What holds the times and the sums of a line: one train more, one source delay replaced, and the same numbers.
 -- Assumes nothing.
 use Rattle.std.proofs.Common.{◌≡◌, refl, sym, ◌∙◌, List, inl, inr, ℕ, ◌+◌, ◌-◌, ◌≤◌, arith}
 use Rattle.std.proofs.lemmas.Bool.{cases_eq}

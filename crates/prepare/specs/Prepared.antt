@@ -4,16 +4,15 @@
 --   HoldsTimes m T x timing   these are the times x of m trains, as slack and source delay, and the period T
 --   HoldsSums m n sums        the list holds the sums of those who leave trains 1 to m, n being the passengers by pair
 --   TimingOf N timing, SumsOf N sums     so it is with the numbers N
---   Prepared checks s timing sums r      what is answered for the sheet s after these checks, and stands in the lists
+--   Prepared checks s timing sums r      what is answered for the sheet s after these checks, and stands there
 -- Assumes nothing.
 use Rattle.std.specs.Prelude.{ℕ, ◌+◌, ◌-◌, ◌≤◌, ◌≡◌, List}
 use Rattle.terms.specs.Verdict.{Verdict, Fine}
-use Rattle.reader.specs.Reading.{Reading}
+use Rattle.reader.specs.Reading.{Reading, reading_of}
 use Rattle.line.specs.Sum.{sum◌from◌to◌}
 use Rattle.sheet.specs.Format.{trains_of, period_of}
 use Rattle.sheet.specs.Numbers.{Times, Numbers, numbers_of}
 use Rattle.sheet.specs.Pairs.{passengers_of_pair}
-use Rattle.reader.specs.Reading.{reading_of}
 use Rattle.cells.specs.declared.timing.Timing.{Timing}
 use Rattle.cells.specs.Timing.{slack_in, source_in, period_in}
 use Rattle.cells.specs.Sums.{leaving_in}

@@ -8,14 +8,13 @@ use native.Mathlib.Omega.{arith}
 use Rattle.terms.specs.declared.Refusal.{Refusal}
 use Rattle.std.specs.Prelude.{Err}
 use Rattle.terms.specs.Verdict.{Fine}
-use Rattle.reader.specs.Reading.{Reading}
+use Rattle.reader.specs.Reading.{Reading, reading_of}
 use Rattle.terms.proofs.Checks.{fine_or_refused, refused_not_fine, then_stop, then_pass, then_fine}
 use Rattle.sheet.specs.Format.{trains_of, period_of, bytes_of}
 use Rattle.sheet.specs.Numbers.{Lists, numbers_of, numbers_in}
 use Rattle.sheet.specs.Checks.{head_verdict, body_verdict, sheet_verdict}
 use Rattle.sheet.specs.Accepted.{Lengths, SameNumbers}
 use Rattle.sheet.proofs.Facts.{headed_of_fine}
-use Rattle.reader.specs.Reading.{reading_of}
 use Rattle.reader.specs.Decoded.{HeadRead, ColumnsRead, Decoded}
 use Rattle.terms.proofs.Answers.{answer_refused, refused_answer}
 use Rattle.reader.proofs.Columns.{columns_lengths, columns_numbers, columns_one}

@@ -8,7 +8,7 @@ use Rattle.lists.proofs.Fill.{filled_padded}
 use Rattle.terms.specs.declared.Refusal.{Refusal}
 use Rattle.std.specs.Prelude.{Ok, Err}
 use Rattle.terms.specs.Verdict.{Verdict}
-use Rattle.reader.specs.Reading.{Reading}
+use Rattle.reader.specs.Reading.{Reading, read_trains, read_period, reading_of}
 use Rattle.terms.proofs.Checks.{if_fine_lem, if_refused, then_pass}
 use Rattle.sheet.specs.Format.{trains_of, period_of}
 use Rattle.sheet.specs.Numbers.{Lists, lists}
@@ -16,7 +16,6 @@ use Rattle.sheet.specs.Checks.{sheet_verdict}
 use Rattle.sheet.specs.Accepted.{Lengths}
 use Rattle.sheet.proofs.Facts.{fine_of_lengths}
 use Rattle.terms.specs.Answer.{answer_number, answer_place}
-use Rattle.reader.specs.Reading.{read_trains, read_period, reading_of}
 use Rattle.reader.specs.Decoded.{Decoded}
 use Rattle.reader.specs.Read.{read_verdict, Read, ReadTells}
 use Rattle.terms.specs.declared.Head.{Head}

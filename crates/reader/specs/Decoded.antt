@@ -5,20 +5,18 @@
 --   ColumnsRead s before after   the lists hold the sheet's columns, fields first, the other places as before
 --   Decoded s before after a     what decode answers for the sheet s, and what it leaves of the lists
 -- Assumes nothing.
-use Rattle.std.specs.Prelude.{ℕ, ◌+◌, ◌*◌, ◌≤◌, ◌<◌, ◌≡◌, List, length}
+use Rattle.std.specs.Prelude.{ℕ, ◌+◌, ◌*◌, ◌≤◌, ◌<◌, ◌≡◌, List, length, Err}
 use Rattle.lists.specs.Filled.{Filled}
 use Rattle.bits.specs.Field.{Within}
 use Rattle.terms.specs.declared.Refusal.{Refusal}
-use Rattle.std.specs.Prelude.{Err}
 use Rattle.terms.specs.Verdict.{Fine}
-use Rattle.reader.specs.Reading.{Reading}
+use Rattle.reader.specs.Reading.{Reading, reading_of}
 use Rattle.sheet.specs.declared.format.Column.{Column}
 use Rattle.sheet.specs.Format.{trains_of, period_of, departure_column, driving_column, delay_column, passenger_column}
 use Rattle.sheet.specs.Format.{entry, bytes_of, pairs_of}
 use Rattle.sheet.specs.Numbers.{Lists, numbers_of, numbers_in}
 use Rattle.sheet.specs.Checks.{head_verdict, sheet_verdict}
 use Rattle.sheet.specs.Accepted.{SameNumbers}
-use Rattle.reader.specs.Reading.{reading_of}
 
 -- n places of the column lie in the sheet, and a list of `size` has room for them
 pub record ColumnRoom (s : List ℕ) (c : Column) (n size : ℕ) : Type 0 where

@@ -7,14 +7,12 @@ use Rattle.std.specs.Prelude.{ℕ, ◌≡◌, List}
 use Rattle.lists.specs.Run.{padded}
 use Rattle.terms.specs.declared.ListFault.TheVariants.{BufferLength}
 use Rattle.terms.specs.declared.Refusal.TheVariants.{OfList}
-use Rattle.terms.specs.Verdict.{Verdict}
-use Rattle.reader.specs.Reading.{Reading}
-use Rattle.terms.specs.Verdict.{◌and_then◌, if_fine, number_in, place_in}
+use Rattle.terms.specs.Verdict.{Verdict, ◌and_then◌, if_fine, number_in, place_in}
+use Rattle.reader.specs.Reading.{Reading, read_trains, read_period, reading_of}
 use Rattle.sheet.specs.Format.{trains_of, period_of, departure_of, driving_of, delay_of, passengers_of, pairs_of}
 use Rattle.sheet.specs.Numbers.{Lists}
 use Rattle.sheet.specs.Checks.{lengths_verdict, sheet_verdict}
 use Rattle.terms.specs.Answer.{answer_number, answer_place}
-use Rattle.reader.specs.Reading.{read_trains, read_period, reading_of}
 
 module _ (s : List ℕ) (before : Lists) where
   -- three lists of exactly 64 numbers and one of exactly 2,080; then the sheet

@@ -1,8 +1,8 @@
 -- The sum of a list, worked from the last place down: at each place, what stands from there on is added once more,
 -- so that no place is multiplied. `Worked` is the invariant, with laws for the start, a turn and the end.
 -- Assumes nothing.
-use Rattle.std.proofs.Common.{◌≡◌, refl, ap, sym, ◌∙◌, List, [], ◌∷◌, ◌++◌, map, ℕ, ◌+◌, arith, length}
-use Rattle.std.proofs.Common.{append_assoc, append-nil}
+use Rattle.std.proofs.Common.{◌≡◌, refl, ap, sym, ◌∙◌, List, [], ◌∷◌, ◌++◌, map, ℕ, ◌+◌, arith, length, append_assoc}
+use Rattle.std.proofs.Common.{append-nil}
 use Rattle.std.proofs.Math.Nat.{add-mul, one-mul}
 use Rattle.records.specs.Weighed.{cut, weighed, sum_of}
 

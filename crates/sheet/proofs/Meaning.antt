@@ -15,8 +15,7 @@ use Rattle.lists.proofs.Run.{run_same}
 use Rattle.bits.specs.Field.{field_of, Bytes}
 use Rattle.bits.proofs.Fields.{field_none, field_split}
 use Rattle.bits.proofs.Bytes.{bytes_same}
-use Rattle.terms.specs.Verdict.{Verdict, Fine}
-use Rattle.terms.specs.Verdict.{◌and_then◌, first_of}
+use Rattle.terms.specs.Verdict.{Verdict, Fine, ◌and_then◌, first_of}
 use Rattle.sheet.specs.Format.{trains_of, entry, bits_of, bytes_of, pairs_of, filling_of}
 use Rattle.sheet.specs.Numbers.{Numbers, numbers_of}
 use Rattle.sheet.specs.Checks.{earliest_of, train_verdict, passengers_verdict, numbers_verdict}

@@ -8,8 +8,7 @@ use Rattle.lists.specs.Choice.{if_below}
 use Rattle.lists.specs.Run.{run_of}
 use Rattle.bits.specs.Field.{bit_at, field_of}
 use Rattle.bits.proofs.Bytes.{bytes_tested}
-use Rattle.terms.specs.Verdict.{Fine}
-use Rattle.terms.specs.Verdict.{verdict_of, ◌and_then◌, first_of}
+use Rattle.terms.specs.Verdict.{Fine, verdict_of, ◌and_then◌, first_of}
 use Rattle.sheet.specs.Format.{entry, bits_of, bytes_of, pairs_of}
 use Rattle.sheet.specs.Numbers.{numbers_of}
 use Rattle.sheet.specs.Checks.{ranges_verdict, earliest_of, train_checks, train_verdict, passengers_verdict}

@@ -16,9 +16,8 @@ use Rattle.terms.specs.declared.HeadFault.TheVariants.{NoHead, TrainCount, Perio
 use Rattle.terms.specs.declared.TrainFault.TheVariants.{Departure, Driving, SourceDelay, Slack}
 use Rattle.terms.specs.declared.Refusal.{Refusal}
 use Rattle.terms.specs.declared.Refusal.TheVariants.{OfHead, OfTrain, Passengers, Filling}
-use Rattle.terms.specs.Verdict.{Verdict}
+use Rattle.terms.specs.Verdict.{Verdict, Check, refuse◌when◌below◌, refuse◌unless◌is◌, verdict_of, ◌and_then◌, first_of}
 use Rattle.terms.specs.Refusal.{train}
-use Rattle.terms.specs.Verdict.{Check, refuse◌when◌below◌, refuse◌unless◌is◌, verdict_of, ◌and_then◌, first_of}
 use Rattle.sheet.specs.Format.{trains_of, period_of, passengers_of, pairs_of, bytes_of, filling_of}
 use Rattle.sheet.specs.Numbers.{Times, Lists, times_of}
 

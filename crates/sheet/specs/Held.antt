@@ -1,4 +1,4 @@
--- The numbers that the four lists of the code hold, lent or of their own.
+-- The numbers that the four lists of the code hold, lent or of their own. Document 01, "The line and its numbers".
 --   lent l, times_lent l   those of four lent lists, and of them the times
 --   held c                 those of four lists with room for any line
 -- Assumes nothing.

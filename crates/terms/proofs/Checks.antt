@@ -17,9 +17,8 @@ use Rattle.std.proofs.lemmas.Bool.{cases_lt}
 use Rattle.lists.proofs.Run.{run_next, run_none}
 use Rattle.terms.specs.declared.Refusal.{Refusal}
 use Rattle.std.specs.Prelude.{Ok, Err}
-use Rattle.terms.specs.Verdict.{Verdict, Fine}
-use Rattle.terms.specs.Verdict.{Check, refuse◌when◌below◌, refuse◌unless◌is◌, verdict_of, ◌and_then◌, first_of}
-use Rattle.terms.specs.Verdict.{if_fine}
+use Rattle.terms.specs.Verdict.{Verdict, Fine, Check, refuse◌when◌below◌, refuse◌unless◌is◌, verdict_of, ◌and_then◌}
+use Rattle.terms.specs.Verdict.{first_of, if_fine}
 
 -- ---- a check and those that follow
 

@@ -17,9 +17,8 @@ use Rattle.terms.specs.declared.ReportFault.TheVariants.{NoSuchTrain, NewDelay, 
 use Rattle.terms.specs.declared.Refusal.{Refusal}
 use Rattle.terms.specs.declared.Refusal.TheVariants.{OfList, OfHead, OfTrain, Passengers, Filling, OfReport}
 use Rattle.std.specs.Prelude.{Ok, Err}
-use Rattle.terms.specs.Verdict.{Verdict, Fine}
+use Rattle.terms.specs.Verdict.{Verdict, Fine, Check, verdict_of, ◌and_then◌, first_of, number_in}
 use Rattle.terms.specs.Refusal.{number_of, blanks_of}
-use Rattle.terms.specs.Verdict.{Check, verdict_of, ◌and_then◌, first_of, number_in}
 use Rattle.terms.proofs.Checks.{Passes, refusal_of, refused_not_fine, check_or_rest}
 
 module _ (P : Refusal → Type 0) where

@@ -1,8 +1,9 @@
--- What the answer of write, plan and report carries. Document 01, "Numbers of refusal": accepted answers carry number
--- and place 0; refused ones carry number and place, and 0 for the total or the length.
+-- What an answer carries, whatever it brings if accepted. Document 01, "Numbers of refusal": accepted answers carry
+-- number and place 0; refused ones carry number and place, and 0 for the total or the length.
+--   Answer, head m T                  what write, plan and report answer; m and T, which read answers
 --   answer_number a, answer_place a   the number and the place of the answer a
 --   answer_carries a                  the total, or in write the length of the sheet
---   answer_of v n                     the answer by the verdict v, n being what it carries if accepted
+--   answer_of v x                     the answer by the verdict v, x being what it brings if accepted
 -- Assumes nothing.
 use Rattle.std.specs.Prelude.{ℕ, Result, Ok, Err}
 use Rattle.terms.specs.Refusal.{number_of, place_of}

@@ -1,5 +1,6 @@
 -- Checks in their order: each refuses by name or lets the next one speak. Document 01, "Numbers of refusal, in the
 -- order of checking".
+--   Verdict, Fine             what a check says: nothing, which is fine, or for what it refuses
 --   refuse r when a below b   the check that refuses for r where a is less than b
 --   refuse r unless a is b    the check that refuses for r where a differs from b
 --   verdict_of checks         what the first check of a list says that refuses; fine if none does

@@ -104,8 +104,8 @@ pub enum ReportFault {
     CellOverLimit(Train),
 }
 
-// Why an input is refused: a fault and, where it has one, its place. In groups, because an enum of
-// many variants is past what is proved unaided.
+// Why an input is refused: a fault and, where it has one, its place. In groups, which read, write,
+// plan and report do not all give.
 #[derive(Clone, Copy)]
 pub enum Refusal {
     OfList(ListFault),

@@ -9,8 +9,7 @@ use lib.Seq.{take_at, drop_at}
 use Rattle.terms.specs.declared.Refusal.{Refusal}
 use Rattle.std.specs.Prelude.{Ok, Err}
 use Rattle.terms.specs.Verdict.{Verdict, Fine}
-use Rattle.terms.specs.Answer.{Answer}
-use Rattle.terms.specs.Answer.{answer_number, answer_place, answer_carries, answer_of}
+use Rattle.terms.specs.Answer.{Answer, answer_number, answer_place, answer_carries, answer_of}
 use Rattle.terms.proofs.Checks.{refused_not_fine, fine_or_refused}
 use Rattle.terms.proofs.Answers.{answer_number_lem, answer_place_lem, answer_carries_lem}
 use Rattle.sheet.specs.Format.{bytes_of}

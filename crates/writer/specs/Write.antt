@@ -6,15 +6,12 @@
 --   Write G before after a   what write answers for G, and what it leaves of the lent bytes
 --   WriteTells G before a    the same answer in the paper's numbers; it follows from Write (writer/proofs/Outcome)
 -- Assumes nothing.
-use Rattle.std.specs.Prelude.{ℕ, ◌≡◌, List, [], ◌∷◌, length, take, drop}
+use Rattle.std.specs.Prelude.{ℕ, ◌≡◌, List, [], ◌∷◌, length, take, drop, Err}
 use Rattle.terms.specs.declared.Refusal.{Refusal}
 use Rattle.terms.specs.declared.ListFault.TheVariants.{BufferLength, ListLength}
 use Rattle.terms.specs.declared.Refusal.TheVariants.{OfList}
-use Rattle.std.specs.Prelude.{Err}
-use Rattle.terms.specs.Verdict.{Verdict, Fine}
-use Rattle.terms.specs.Answer.{Answer}
-use Rattle.terms.specs.Verdict.{verdict_of, ◌and_then◌, if_fine, number_in, place_in, refuse◌unless◌is◌}
-use Rattle.terms.specs.Answer.{answer_number, answer_place, answer_carries, answer_of}
+use Rattle.terms.specs.Verdict.{Verdict, Fine, verdict_of, ◌and_then◌, if_fine, number_in, place_in, refuse◌unless◌is◌}
+use Rattle.terms.specs.Answer.{Answer, answer_number, answer_place, answer_carries, answer_of}
 use Rattle.sheet.specs.Format.{bytes_of, pairs_of}
 use Rattle.sheet.specs.Numbers.{Numbers, Lists, numbers_in}
 use Rattle.sheet.specs.Checks.{lengths_verdict, ranges_verdict, numbers_verdict}

@@ -1,6 +1,5 @@
 -- The last bits of the value stand: none at first, and in each turn one more in front.
-use Rattle.std.proofs.Common.{◌≡◌, ◌∙◌, refl, ap, List, ℕ, ◌<◌, ◌≤◌, ◌+◌, ◌-◌, ◌*◌, ◌/◌, ◌%◌, ◌^◌, arith}
-use Rattle.std.proofs.Common.{shr-shr}
+use Rattle.std.proofs.Common.{◌≡◌, ◌∙◌, refl, ap, List, ℕ, ◌<◌, ◌≤◌, ◌+◌, ◌-◌, ◌*◌, ◌/◌, ◌%◌, ◌^◌, arith, shr-shr}
 use Rattle.std.proofs.lemmas.Nat.{mod-pow-add}
 use Rattle.bits.specs.Field.{Put}
 use Rattle.bits.proofs.Puts.{put_none, put_more}
