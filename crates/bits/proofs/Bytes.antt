@@ -1,99 +1,61 @@
 -- One bit of one byte replaced, and bytes against their bits: lists of bytes of one length with equal bits are equal.
 -- Assumes nothing.
-use mathlib.Core.Path.{◌≡◌, sym, ap, subst, ◌∙◌}
-use mathlib.Core.Bool.{Bool, true, false, ◌&&◌}
-use mathlib.Core.List.{List, [], ◌∷◌}
-use mathlib.Core.Logic.{⊎_elim}
-use Prim.Native.Nat.{ℕ, zero, suc, ◌+◌, ◌-◌, ◌*◌, ◌/◌, ◌%◌, ◌^◌, ◌≤◌, ◌<◌}
-use native.Mathlib.Nat.{mod-lt, pow-suc, div-le_self, one-mul, div-eq_of_lt, div-one, zero-add}
-use native.Mathlib.Omega.{arith}
-use lib.Arith.{digits_lt}
-use lib.Dec.{T, ltb, ltb→lt, lit<, lit≤}
-use lib.ListN.{length, get_or}
-use lib.Pow.{pow_pos, pow-add, field, mod-mod-pow, shr-shr, shr_lt, shl_exact, high, low, are_bytes}
-use lib.Seq.{ext_get_or}
-use Rattle.lists.proofs.Order.{lt_or_ge}
+use Rattle.std.proofs.Common.{◌≡◌, sym, subst, ◌∙◌, Bool, true, false, ◌&&◌, List, [], ◌∷◌, ℕ, zero, suc}
+use Rattle.std.proofs.Common.{◌+◌, ◌-◌, ◌*◌, ◌/◌, ◌%◌, ◌^◌, ◌≤◌, ◌<◌, mod-lt, div-one}
+use Rattle.std.proofs.Common.{zero-add, arith, T, ltb, ltb→lt, lit<, lit≤, length, get_or, shr-shr}
+use Rattle.std.proofs.Common.{ext_get_or, lt_of_le_of_lt, inl, inr, w8, bit_and, bit_or}
+use lib.Pow.{are_bytes}
+use Rattle.std.proofs.lemmas.Nat.{and_le_l, or_of_8}
+use Rattle.std.proofs.lemmas.Nat.Bits.{bit_at_clear_same, bit_at_clear_other, bit_at_set_same, bit_at_set_other, bit_at_above}
+use Rattle.std.proofs.lemmas.Bool.{cases_lt, cases_eq}
 use Rattle.bits.specs.Field.{bit_at, field_of, BitPut, Bytes}
 use Rattle.bits.proofs.Fields.{field_same, same_bits}
 
--- ---- one bit of one byte: above and below it the digits in base 2 ^ k stay
+-- ---- one bit of one byte cleared or set, as `byte & !(1 << k)` and `byte | 1 << k` compute it
 
--- numbers that agree below 2 ^ k agree in each bit there
-low_same : (x y j k : ℕ) → j < k → y % 2 ^ k ≡ x % 2 ^ k → y / 2 ^ j % 2 ≡ x / 2 ^ j % 2
-low_same x y j k l e =
-    let d : ℕ = k - suc j in
-    let q : k ≡ d + 1 + j = omega arith in
-    let low_bits : (n : ℕ) → n % 2 ^ (d + 1 + j) / 2 ^ j % 2 ≡ n / 2 ^ j % 2
-    = λ n. rw (field n (d + 1) j) (mod-mod-pow (n / 2 ^ j) d 1) in
-    sym (low_bits y)
-    ∙ ap (λ (n : ℕ). n / 2 ^ j % 2) (subst (λ (m : ℕ). y % 2 ^ m ≡ x % 2 ^ m) q e)
-    ∙ low_bits x
+module _ (x k b : ℕ) (byte : x < 256) (within : k < 8) where
+  pub bit_cleared : b ≡ 0 → BitPut x k b (bit_and x (255 - 1 * 2 ^ k % 256))
+  bit_cleared e =
+      record {
+        holds = bit_at_clear_same w8 x k within ∙ sym e;
+        others = λ j ne. elim (cases_lt j 8) [
+          | inl l ↦ bit_at_clear_other w8 x k within j l ne
+          | inr l ↦ bit_at_above _ 8 j (lt_of_le_of_lt (and_le_l x _) byte) l ∙ sym (bit_at_above x 8 j byte l)
+        ];
+      }
 
--- numbers that agree above bit k agree in each bit there
-high_same : (x y j k : ℕ) → k < j → y / 2 ^ k / 2 ≡ x / 2 ^ k / 2 → y / 2 ^ j ≡ x / 2 ^ j
-high_same x y j k l e =
-    let d : ℕ = j - suc k in
-    let q : k + 1 + d ≡ j = omega arith in
-    let up : (n : ℕ) → n / 2 ^ k / 2 / 2 ^ d ≡ n / 2 ^ j
-    = λ n. ap (λ (m : ℕ). m / 2 ^ d) (shr-shr n k 1) ∙ shr-shr n (k + 1) d ∙ ap (λ (m : ℕ). n / 2 ^ m) q in
-    sym (up y) ∙ ap (λ (m : ℕ). m / 2 ^ d) e ∙ up x
+  pub bit_set : b ≡ 1 → BitPut x k b (bit_or x (1 * 2 ^ k % 256))
+  bit_set e =
+      record {
+        holds = bit_at_set_same w8 x k within ∙ sym e;
+        others = λ j ne. bit_at_set_other w8 x k within j ne;
+      }
 
--- x with its bit of weight 2 ^ k replaced by b
-with_bit : ℕ → ℕ → ℕ → ℕ
-with_bit x k b = (x / 2 ^ k / 2 * 2 + b) * 2 ^ k + x % 2 ^ k
+-- so there is a byte with the one bit replaced
+pub record BytePut (x k b : ℕ) : Type 0 where
+  pub byte : ℕ
+  pub small : byte < 256
+  pub put : BitPut x k b byte
 
-module _ (x k b : ℕ) (hb : b < 2) where
-  with_high : with_bit x k b / 2 ^ k ≡ x / 2 ^ k / 2 * 2 + b
-  unfolding with_bit
-  with_high = high _ k (mod-lt x (pow_pos k))
-
-  with_low : with_bit x k b % 2 ^ k ≡ x % 2 ^ k
-  unfolding with_bit
-  with_low = low _ k (mod-lt x (pow_pos k))
-
-  with_other : (j : ℕ) → (j ≡ k → ⊥) → with_bit x k b / 2 ^ j % 2 ≡ x / 2 ^ j % 2
-  with_other j ne =
-      ⊎_elim
-      (λ (l : j < k). low_same x (with_bit x k b) j k l with_low)
-      (λ (l : k ≤ j).
-      ap (λ (n : ℕ). n % 2) (high_same x (with_bit x k b) j k (omega arith) (rw with_high (omega arith))))
-      (lt_or_ge j k)
-
-  with_bit_put : BitPut x k b (with_bit x k b)
-  with_bit_put = record { holds = rw with_high (omega arith); others = with_other }
-
-  with_lt : x < 256 → k < 8 → with_bit x k b < 256
-  unfolding with_bit
-  with_lt hx hk =
-      let d : ℕ = 7 - k in
-      let q : suc d + k ≡ 8 = omega arith in
-      let hq : x / 2 ^ k < 2 ^ suc d = shr_lt (suc d) k (subst (λ (m : ℕ). x < 2 ^ m) (sym q) hx) in
-      let ha : x / 2 ^ k / 2 * 2 + b < 2 ^ suc d = rw pow-suc (omega (arith, rw pow-suc at hq)) in
-      subst (λ (m : ℕ). with_bit x k b < m) (sym (pow-add 2 (suc d) k) ∙ ap (λ (m : ℕ). 2 ^ m) q)
-      (digits_lt ha (mod-lt x (pow_pos k)))
-
--- 1 << k in 32 bits
-pub one_shl : (k : ℕ) → k ≤ 31 → 1 * 2 ^ k % 2 ^ 32 ≡ 2 ^ k
-one_shl k l = shl_exact {a = 1} 1 k 32 (lit< tt) (omega arith) ∙ one-mul (2 ^ k)
-
--- what shifts in 32 bits compute: they lose nothing, so that the result is a byte with the one bit replaced
-pub record Machine (x k b y : ℕ) : Type 0 where
-  pub small : y < 256
-  pub put : BitPut x k b y
-
-pub machine : (x k b : ℕ) → b < 2 → x < 256 → k < 8
-    → Machine x k b ((x / 2 ^ k / 2 * 2 + b) * 2 ^ k % 2 ^ 32 + x % (1 * 2 ^ k % 2 ^ 32))
-unfolding with_bit
-machine x k b hb hx hk =
-    let ha : x / 2 ^ k / 2 * 2 + b < 2 ^ 8 = omega (arith, div-le_self x (2 ^ k)) in
-    rw (shl_exact 8 k 32 ha (omega arith), one_shl k (omega arith))
-    (record { small = with_lt x k b hb hx hk; put = with_bit_put x k b hb })
+pub byte_put : (x k b : ℕ) → x < 256 → k < 8 → b < 2 → BytePut x k b
+byte_put x k b byte within bit = elim (cases_eq b 0) [
+  | inl e ↦ record {
+    byte = _;
+    small = lt_of_le_of_lt (and_le_l x _) byte;
+    put = bit_cleared x k b byte within e;
+  }
+  | inr n ↦ record {
+    byte = _;
+    small = or_of_8 x _ byte (mod-lt (1 * 2 ^ k) (lit< tt));
+    put = bit_set x k b byte within (omega arith);
+  }
+]
 
 -- ---- whole bytes
 
 byte_part : (s : List ℕ) (q k : ℕ) → get_or s q 0 < 256 → k ≤ 8 → field_of s (8 * q) k ≡ get_or s q 0 / 2 ^ (8 - k)
 unfolding field_of bit_at
-byte_part s q zero h l = sym (div-eq_of_lt h)
+byte_part s q zero h l = omega arith
 byte_part s q (suc k) h l =
     let d : ℕ = 7 - k in
     let a : (8 * q + k) / 8 ≡ q = omega arith in

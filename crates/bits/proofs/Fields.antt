@@ -1,16 +1,9 @@
 -- Laws of fields, once over the width: one bit more, the range, two fields side by side, and fields against bits.
 -- Assumes nothing.
-use mathlib.Core.Path.{◌≡◌, refl, sym, ap₂, subst}
-use mathlib.Core.List.{List}
-use mathlib.Core.Logic.{⊎_elim}
-use Prim.Native.Nat.{ℕ, zero, suc, ◌+◌, ◌*◌, ◌^◌, ◌≤◌, ◌<◌}
-use native.Mathlib.Nat.{mod-lt, pow-suc, add-suc, add-zero, add_assoc, mul_assoc, not-suc-le-zero, eq-or-lt_of_le}
-use native.Mathlib.Nat.{le_of_suc-le-suc, suc_inj, lt_of_lt_of_le}
-use native.Mathlib.Numerals.{add-one}
-use native.Mathlib.Omega.{arith}
-use lib.Dec.{lit<}
-use lib.ListN.{length}
-use lib.Pow.{pow_mono}
+use Rattle.std.proofs.Common.{◌≡◌, refl, ap₂, List, inl, inr, ℕ, zero, suc, ◌+◌, ◌*◌, ◌^◌, ◌≤◌, ◌<◌, mod-lt}
+use Rattle.std.proofs.Common.{pow-suc, add-suc, add-zero, add_assoc, mul_assoc, not-suc-le-zero}
+use Rattle.std.proofs.Common.{lt_of_lt_of_le, add-one, arith, lit<, length, pow_mono}
+use Rattle.std.proofs.lemmas.Bool.{cases_lt}
 use Rattle.bits.specs.Field.{bit_at, field_of, Within}
 
 pub bit_lt : (s : List ℕ) (i : ℕ) → bit_at s i < 2
@@ -62,13 +55,16 @@ pub same_bits : (s t : List ℕ) (at w : ℕ) → field_of s at w ≡ field_of t
     → (i : ℕ) → i < w → bit_at s (at + i) ≡ bit_at t (at + i)
 unfolding field_of
 same_bits s t at zero e i l = absurd (not-suc-le-zero l)
-same_bits s t at (suc w) e i l =
-    let b : bit_at s (at + w) ≡ bit_at t (at + w) = omega (arith, bit_lt s (at + w), bit_lt t (at + w)) in
-    ⊎_elim
-    (λ q. subst (λ (j : ℕ). bit_at s (at + j) ≡ bit_at t (at + j)) (sym (suc_inj q)) b)
-    (λ r. same_bits s t at w (omega (arith, bit_lt s (at + w), bit_lt t (at + w))) i (le_of_suc-le-suc r))
-    (eq-or-lt_of_le l)
+same_bits s t at (suc w) e i l = elim (cases_lt i w) [
+  | inl r ↦ same_bits s t at w (omega (arith, bit_lt s (at + w), bit_lt t (at + w))) i r
+  | inr r ↦
+      let last : i ≡ w = omega arith in
+      rw last (omega (arith, bit_lt s (at + w), bit_lt t (at + w)))
+]
 
 -- a field lies as well within other bytes of the same length
 pub within_same : {s t : List ℕ} {at w : ℕ} → Within s at w → length t ≡ length s → Within t at w
 within_same h e = record { inside = omega (arith, h.inside); narrow = h.narrow; near = h.near }
+
+-- what a loop that reads a field bit by bit needs
+pub ruleset reading = (field_none, field_more, field_small, bit_lt)

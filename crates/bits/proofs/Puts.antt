@@ -1,29 +1,20 @@
 -- Laws of a field that is put: fields apart from it stay, one bit, one bit more in front; and for a number that fits
 -- there is a result, and only one.
 -- Assumes nothing.
-use mathlib.Core.Path.{◌≡◌, refl, sym, ap₂, subst, ◌∙◌}
-use mathlib.Core.List.{List}
-use mathlib.Core.Logic.{inl, inr, ⊎_elim}
-use Prim.Native.Nat.{ℕ, zero, suc, ◌+◌, ◌-◌, ◌*◌, ◌/◌, ◌%◌, ◌^◌, ◌≤◌, ◌<◌}
-use native.Mathlib.Nat.{mod-lt, div-add-mod'}
-use native.Mathlib.Decide.{ℕ_discrete}
-use native.Mathlib.Omega.{arith}
-use lib.Pow.{pow_pos, shr_lt}
-use lib.ListN.{length, get_or, set, length-set}
-use lib.Seq.{get_or-set_same, get_or-set_other}
-use Rattle.lists.proofs.Order.{lt_or_ge}
+use Rattle.std.proofs.Common.{◌≡◌, refl, sym, ap₂, subst, ◌∙◌, List, inl, inr, ℕ, zero, suc, ◌+◌, ◌-◌, ◌*◌, ◌/◌}
+use Rattle.std.proofs.Common.{◌%◌, ◌^◌, ◌≤◌, ◌<◌, mod-lt, div-add-mod', arith, pow_pos, shr_lt, length, get_or, set}
+use Rattle.std.proofs.Common.{length-set, get_or-set_same, get_or-set_other}
+use Rattle.std.proofs.lemmas.Bool.{cases_lt, cases_eq}
 use Rattle.bits.specs.Field.{bit_at, field_of, Apart, Put, BitPut, Bytes}
 use Rattle.bits.proofs.Fields.{field_none, field_bit, field_split, field_same, same_bits}
-use Rattle.bits.proofs.Bytes.{machine, bytes_ext}
+use Rattle.bits.proofs.Bytes.{byte_put, bytes_ext}
 
 -- every field that lies apart from the one put is as it was
 pub put_apart : {s t : List ℕ} {at w v : ℕ} → Put s at w v t → (a u : ℕ) → Apart a u at w
     → field_of t a u ≡ field_of s a u
 put_apart {s} {t} {at} {w} h a u o =
     field_same t s a u
-    (λ i l.
-    h.others (a + i)
-    (⊎_elim (λ (p : a + u ≤ at). inl (omega arith)) (λ (p : at + w ≤ a). inr (omega arith)) o))
+    (λ i l. h.others (a + i) (elim o [ inl p ↦ inl (omega arith) | inr p ↦ inr (omega arith) ]))
 
 -- nothing is put
 pub put_none : (s : List ℕ) (at : ℕ) → Put s at 0 0 s
@@ -38,10 +29,10 @@ put_one s i b y l h =
       long = length-set s (i / 8) y;
       holds = field_bit (set s (i / 8) y) i ∙ rw (get_or-set_same s (i / 8) y 0 (omega arith)) h.holds;
       others = λ j o.
-          let ne : j ≡ i → ⊥ = λ q. ⊎_elim (λ (p : j + 1 ≤ i). omega arith) (λ (p : i + 1 ≤ j). omega arith) o in
-          elim (ℕ_discrete (j / 8) (i / 8)) [
-            | yes e ↦ rw (e, get_or-set_same s (i / 8) y 0 (omega arith)) (h.others (7 - j % 8) (λ q. ne (omega arith)))
-            | no n ↦ rw (get_or-set_other s (i / 8) (j / 8) y 0 n) refl
+          let ne : j ≡ i → ⊥ = λ q. elim o [ inl p ↦ omega arith | inr p ↦ omega arith ] in
+          elim (cases_eq (j / 8) (i / 8)) [
+            | inl e ↦ rw (e, get_or-set_same s (i / 8) y 0 (omega arith)) (h.others (7 - j % 8) (λ q. ne (omega arith)))
+            | inr n ↦ rw (get_or-set_other s (i / 8) (j / 8) y 0 n) refl
           ];
     }
 
@@ -54,9 +45,8 @@ put_more {s} {t} {u} at {w} g h =
       holds = field_split u at 1 w
           ∙ ap₂ (λ (m n : ℕ). m * 2 ^ w + n) h.holds (put_apart h (at + 1) w (inr (omega arith)) ∙ g.holds);
       others = λ i o.
-          h.others i (⊎_elim (λ (p : i + 1 ≤ at). inl p) (λ (p : at + (1 + w) ≤ i). inr (omega arith)) o)
-          ∙ g.others i
-          (⊎_elim (λ (p : i + 1 ≤ at). inl (omega arith)) (λ (p : at + (1 + w) ≤ i). inr (omega arith)) o);
+          h.others i (elim o [ inl p ↦ inl p | inr p ↦ inr (omega arith) ])
+          ∙ g.others i (elim o [ inl p ↦ inl (omega arith) | inr p ↦ inr (omega arith) ]);
     }
 
 -- what was put determines the bytes
@@ -65,23 +55,23 @@ put_unique {s} {t} {u} {at} {w} g h bt bu =
     bytes_ext t u bt bu (g.long ∙ sym h.long)
     (λ i l.
     let away : Apart i 1 at w → bit_at t i ≡ bit_at u i = λ o. g.others i o ∙ sym (h.others i o) in
-    ⊎_elim
-    (λ (p : i < at). away (inl (omega arith)))
-    (λ (p : at ≤ i).
-    ⊎_elim
-    (λ (q : i < at + w).
-    let e : at + (i - at) ≡ i = omega arith in
-    subst (λ (j : ℕ). bit_at t j ≡ bit_at u j) e (same_bits t u at w (g.holds ∙ sym h.holds) (i - at) (omega arith)))
-    (λ (q : at + w ≤ i). away (inr q))
-    (lt_or_ge i (at + w)))
-    (lt_or_ge i at))
+    elim (cases_lt i at) [
+      | inl p ↦ away (inl (omega arith))
+      | inr p ↦ elim (cases_lt i (at + w)) [
+        | inl q ↦
+            let e : at + (i - at) ≡ i = omega arith in
+            subst (λ (j : ℕ). bit_at t j ≡ bit_at u j) e
+            (same_bits t u at w (g.holds ∙ sym h.holds) (i - at) (omega arith))
+        | inr q ↦ away (inr q)
+      ]
+    ])
 
 -- ---- a number that fits its field can be put
 
 bytes_set : (s : List ℕ) (q y : ℕ) → Bytes s → q < length s → y < 256 → Bytes (set s q y)
-bytes_set s q y bytes room small i = elim (ℕ_discrete i q) [
-  | yes e ↦ rw (e, get_or-set_same s q y 0 room) small
-  | no n ↦ rw (get_or-set_other s q i y 0 n) (bytes i)
+bytes_set s q y bytes room small i = elim (cases_eq i q) [
+  | inl e ↦ rw (e, get_or-set_same s q y 0 room) small
+  | inr n ↦ rw (get_or-set_other s q i y 0 n) (bytes i)
 ]
 
 pub record Puttable (s : List ℕ) (at w v : ℕ) : Type 0 where
@@ -95,7 +85,7 @@ puttable_more : (s : List ℕ) (at k b x : ℕ) → b < 2 → at < 8 * length s 
 puttable_more s at k b x bit room low =
     let t = low.result in
     let in_sheet : at < 8 * length t = omega (arith, low.put.long) in
-    let byte = machine (get_or t (at / 8) 0) (7 - at % 8) b bit (low.bytes (at / 8)) (omega arith) in
+    let byte = byte_put (get_or t (at / 8) 0) (7 - at % 8) b (low.bytes (at / 8)) (omega arith) bit in
     record {
       result = set t (at / 8) _;
       bytes = bytes_set t (at / 8) _ low.bytes (omega arith) byte.small;

@@ -6,25 +6,23 @@ ghost use Rattle.std.specs.Prelude.{◌≡◌, ◌*◌, ◌^◌, ◌<◌, length
 ghost use Rattle.bits.specs.Field.{bit_at, field_of, Within, BitPut, Put};
 
 // Bit `i` of the bytes, the most significant bit of byte 0 being bit 0.
+#[tactic(auto, unfolding(crate::specs::Field::bit_at))]
 fn bit(bytes: &[u8], i: usize) -> u32
     requires { i < 8 * length bytes.now }
     ensures { result ≡ bit_at bytes.now i }
 {
-    let byte = bytes[i / 8] as u32;
-    let below = 7 - i % 8;
-    (byte >> below) % 2
+    u32::from(bytes[i / 8] >> (7 - i % 8)) % 2
 }
 
 // The number held by the `width` bits from bit `at`.
+#[tactic(auto, using(crate::proofs::Fields::reading))]
 pub fn field(bytes: &[u8], at: usize, width: usize) -> u32
     requires { Within bytes.now at width }
     ensures { result ≡ field_of bytes.now at width }
 {
     let mut number: u32 = 0;
-    let mut k: usize = 0;
-    while k < width {
+    for k in 0..width {
         number = number * 2 + bit(bytes, at + k);
-        k += 1;
     }
     number
 }
@@ -34,10 +32,8 @@ fn with_bit(byte: u8, k: usize, b: u32) -> u8
     requires { (k < 8) × (b < 2) }
     ensures { BitPut byte k b result }
 {
-    let n = byte as u32;
-    let high = (n >> k) / 2 * 2 + b;
-    let low = n % (1u32 << k);
-    ((high << k) + low) as u8
+    let mask = 1u8 << k;
+    if b == 0 { byte & !mask } else { byte | mask }
 }
 
 // Bit `i` of the bytes becomes `b`.
@@ -54,11 +50,9 @@ pub fn put(bytes: &mut [u8], at: usize, width: usize, value: u32)
     requires { Within bytes.old at width × (value < 2 ^ width) }
     ensures { Put bytes.old at width value bytes.new }
 {
-    let mut left = width;
     let mut rest = value;
-    while 0 < left {
-        left -= 1;
-        put_bit(bytes, at + left, rest % 2);
-        rest = rest / 2;
+    for k in (0..width).rev() {
+        put_bit(bytes, at + k, rest % 2);
+        rest /= 2;
     }
 }

@@ -3,8 +3,8 @@
 --     `late`, and `boarded` are those who board at k or later and leave train i or a later one
 -- Assumes nothing.
 use Rattle.std.proofs.Common.{◌≡◌, ap, sym, ◌∙◌, List, inl, inr, ℕ, ◌+◌, ◌-◌, ◌*◌, ◌≤◌, ◌<◌, le_refl, le_trans, le_of_eq, mul_comm, mul-le-mul, arith, length, length-set, get_or-set_same, get_or-set_other}
+use Rattle.std.proofs.lemmas.Bool.{cases_eq}
 use Rattle.lists.proofs.Held.{nth_index}
-use Rattle.lists.proofs.Order.{same_or_not}
 use Rattle.line.specs.Line.{Running}
 use Rattle.line.specs.Cells.{Book, excess_on, arrival_on}
 use Rattle.line.specs.Ranges.{latest, everyone, limit}
@@ -114,7 +114,7 @@ module _ (m k : ℕ) (timing : Timing) (sums : List ℕ) where
           ahead = ap (λ (d : ℕ). d - slack_in timing (i + 1)) late_is ∙ sym (excess_on_next R k i from);
           small = rw (ea, ex) turn_late;
           counted = omega (arith, turn_leaves);
-          done = λ l u v. elim (same_or_not l i) [
+          done = λ l u v. elim (cases_eq l i) [
             | inl same ↦ rw same (put_at costs i _ pos B k room (ex ∙ S.ahead)
                 (rw (ey, en, late_is)) (rw (ez, aboard_is, et) (mul_comm _ _)))
             | inr not ↦ put_stands costs i _ pos B k l (omega arith) not (S.done l u (omega arith))

@@ -2,7 +2,7 @@
 -- cell is at most the limit.
 -- Assumes nothing.
 use Rattle.std.proofs.Common.{List, inl, inr, ℕ, ◌≤◌, le_trans, le_of_eq, arith}
-use Rattle.lists.proofs.Order.{lt_or_ge}
+use Rattle.std.proofs.lemmas.Bool.{cases_lt}
 use Rattle.line.specs.Ranges.{limit, RunningInRange, BookInRange}
 use Rattle.line.proofs.Bounds as bounds
 use Rattle.cells.specs.Place.{table_of, RowsWorked}
@@ -32,14 +32,14 @@ module _ (m : ℕ) (timing : Timing) (sums : List ℕ) (given : BookGiven m timi
   -- worked rows are in range by themselves, later rows if they were
   pub worked_in_range : (t : ℕ) (before after : List ℕ) → RowsWorked (book_in m timing sums) t before after
       → LaterInRange m t before → CellsInRange m after
-  worked_in_range t before after W later k l a b c = elim (lt_or_ge t k) [
+  worked_in_range t before after W later k l a b c = elim (cases_lt t k) [
     | inl u ↦ le_trans (le_of_eq (W.worked.stand k l u b c)) (later k l u b c)
     | inr u ↦ bounds.cell_le _ book_in_range k a t _ _ W.worked u l b c
   ]
 
 -- a cell in use, or 0 past the last column
 pub cell_le : (m : ℕ) (cells : List ℕ) → CellsInRange m cells → (k l : ℕ) → 1 ≤ k → k ≤ l → table_of m cells k l ≤ limit
-cell_le m cells range k l a b = elim (lt_or_ge m l) [
+cell_le m cells range k l a b = elim (cases_lt m l) [
   | inl past ↦ omega (arith, table_past m cells k l past)
   | inr h ↦ range k l a b h
 ]

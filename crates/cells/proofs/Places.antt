@@ -4,7 +4,7 @@
 -- Assumes nothing.
 use Rattle.std.proofs.Common.{◌≡◌, List, ◌⊎◌, inl, inr, ℕ, ◌+◌, ◌-◌, ◌/◌, ◌%◌, ◌≤◌, ◌<◌, arith, get_or}
 use Rattle.lists.proofs.Choice.{below_yes, below_no}
-use Rattle.lists.proofs.Order.{lt_or_ge}
+use Rattle.std.proofs.lemmas.Bool.{cases_lt}
 use Rattle.cells.specs.Place.{cell_count, place, table_of, InUse}
 use Rattle.cells.specs.Sums.{place_of_sum}
 
@@ -58,11 +58,11 @@ module _ (m t p : ℕ) (few : m ≤ 64) where
       }
 
   pub in_use_or_not : InUse m t p ⊎ ¬ (InUse m t p)
-  in_use_or_not = elim (lt_or_ge t (p / 64 + 1)) [
+  in_use_or_not = elim (cases_lt t (p / 64 + 1)) [
     | inl a ↦ inr (λ u. omega (arith, in_use_row u, u.most))
-    | inr a ↦ elim (lt_or_ge (p % 64 + 1) (p / 64 + 1)) [
+    | inr a ↦ elim (cases_lt (p % 64 + 1) (p / 64 + 1)) [
       | inl b ↦ inr (λ u. omega (arith, in_use_row u, in_use_column u, u.cell.run))
-      | inr b ↦ elim (lt_or_ge m (p % 64 + 1)) [
+      | inr b ↦ elim (cases_lt m (p % 64 + 1)) [
         | inl c ↦ inr (λ u. omega (arith, in_use_column u, u.cell.last))
         | inr c ↦ inl (in_use_here a b c)
       ]

@@ -2,7 +2,7 @@
 -- Assumes nothing.
 use Rattle.std.proofs.Common.{◌≡◌, refl, ap, sym, ◌∙◌, ℕ, ◌-◌, ◌≤◌, inl, inr, arith, length, set, get_or-set_same, get_or-set_other, length-set}
 use Rattle.std.proofs.lemmas.List.{get_or_past}
-use Rattle.lists.proofs.Order.{lt_or_ge, same_or_not}
+use Rattle.std.proofs.lemmas.Bool.{cases_lt, cases_eq}
 use Rattle.cells.specs.declared.timing.TrainTimes.{TrainTimes}
 use Rattle.cells.specs.declared.timing.Timing.{Timing}
 use Rattle.cells.specs.Timing.{train_times, slack_in, source_in, period_in, with_slack, with_source, with_period}
@@ -19,9 +19,9 @@ module _ (timing : Timing) (i j : ℕ) (x : TrainTimes) where
 
   -- and a number that the store leaves is as it was, whatever the train
   stands : (f : TrainTimes → ℕ) → f x ≡ f (train_times timing i) → f (train_times stored j) ≡ f (train_times timing j)
-  stands f e = elim (same_or_not (j - 1) (i - 1)) [
+  stands f e = elim (cases_eq (j - 1) (i - 1)) [
     | inr not ↦ ap f (get_or-set_other timing.trains (i - 1) (j - 1) x _ not)
-    | inl same ↦ elim (lt_or_ge (i - 1) (length timing.trains)) [
+    | inl same ↦ elim (cases_lt (i - 1) (length timing.trains)) [
       | inl room ↦ rw same (ap f (get_or-set_same timing.trains (i - 1) x _ room) ∙ e)
       | inr past ↦ rw same (ap f
           (get_or_past (set timing.trains (i - 1) x) (i - 1) _ (omega (arith, length-set {A = TrainTimes}))

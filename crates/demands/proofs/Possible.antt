@@ -9,9 +9,8 @@ use native.Mathlib.Nat.{le_refl}
 use native.Mathlib.Omega.{arith}
 use lib.ListN.{length, get_or, replicate, get_or-eq_default}
 use Rattle.std.specs.Prelude.{if◌then◌else◌}
-use Rattle.lists.proofs.Choice.{if_no}
+use Rattle.std.proofs.lemmas.Bool.{cond-false, cases_lt}
 use Rattle.lists.specs.Run.{listed, padded}
-use Rattle.lists.proofs.Order.{lt_or_ge}
 use Rattle.lists.proofs.Run.{listed_length, listed_at}
 use Rattle.bits.specs.Field.{Bytes}
 use Rattle.bits.proofs.Puts.{puttable}
@@ -78,7 +77,7 @@ module _ (B : Book) (few : B.trains ≤ 64) (t : ℕ) (old : List ℕ) where
       let same = place_one m k l u.row u.cell.column few a b c u.least u.cell.run u.cell.last
       u.cell.stands in
       ap₂ table (sym same.0) (sym same.1)
-  put_used k l a b c (inr n) = elim (lt_or_ge t k) [
+  put_used k l a b c (inr n) = elim (cases_lt t k) [
     | inl later ↦ sym (table_in m old k l c) ∙ sym ((worked_exists B t (table_of m old)).stand k l later b c)
     | inr most ↦
         absurd (n (record {
@@ -99,7 +98,7 @@ module _ (B : Book) (few : B.trains ≤ 64) (t : ℕ) (old : List ℕ) where
       table_in m worked_cells k l c ∙ cell_there (place m k l) (place_lt m k l a b c few) ∙ put_used k l a b c _
 
   others : length old ≡ cell_count → (p : ℕ) → ¬ (InUse m t p) → get_or worked_cells p 0 ≡ get_or old p 0
-  others long p n = elim (lt_or_ge p cell_count) [
+  others long p n = elim (cases_lt p cell_count) [
     | inl l ↦ cell_there p l ∙ put_unused p _ n
     | inr l ↦
         get_or-eq_default worked_cells 0 (omega (arith, cells_long))
@@ -108,7 +107,7 @@ module _ (B : Book) (few : B.trains ≤ 64) (t : ℕ) (old : List ℕ) where
 
   -- the cell after (k, l), in use or past the last
   next : (k l : ℕ) → 1 ≤ k → k ≤ l → l ≤ m → table k (l + 1) ≡ table_of m worked_cells k (l + 1)
-  next k l a b c = elim (lt_or_ge m (l + 1)) [
+  next k l a b c = elim (cases_lt m (l + 1)) [
     | inl x ↦
         let e : m + 1 ≡ l + 1 = omega arith in
         ap (table k) (sym e) ∙ (worked_exists B t (table_of m old)).last k ∙ sym (table_past m worked_cells k (l + 1) x)
@@ -163,7 +162,7 @@ refuses r before =
     record {
       blanked = λ yes.
           rw yes (record { decisions = refl; delays = refl; cells = refl });
-      kept = λ no. if_no _ _ no;
+      kept = λ no. cond-false _ _ _ no;
     }
 
 -- ---- plan

@@ -10,7 +10,7 @@ use lib.ListN.{length, get_or}
 use Rattle.lists.specs.Choice.{if_below}
 use Rattle.lists.specs.Run.{listed, padded, nth}
 use Rattle.lists.proofs.Choice.{below_yes, below_no}
-use Rattle.lists.proofs.Order.{lt_or_ge}
+use Rattle.std.proofs.lemmas.Bool.{cases_lt}
 use Rattle.lists.proofs.Run.{listed_each, listed_padded, padded_same}
 use Rattle.std.specs.Prelude.{Ok}
 use Rattle.terms.specs.Verdict.{Verdict, Fine}
@@ -77,7 +77,7 @@ byte_at (d ∷ ds) (suc k) h = byte_at ds k (omega arith)
 -- 0 for train 1, then the decisions
 byte_of_decision : (ds : List Decision) (i : ℕ) → 1 ≤ i → i ≤ length ds + 1
     → if_below 1 i (byte_of (policy_from ds i)) 0 ≡ nth (0 ∷ map byte_of ds) i
-byte_of_decision ds i a b = elim (lt_or_ge 1 i) [
+byte_of_decision ds i a b = elim (cases_lt 1 i) [
   | inl u ↦
       let e : i - 1 ≡ suc (i - 2) = omega arith in
       below_yes _ _ u ∙ byte_at ds (i - 2) (omega arith) ∙ ap (λ (k : ℕ). get_or (0 ∷ map byte_of ds) k 0) (sym e)

@@ -7,7 +7,6 @@ use Prim.Native.Nat.{ℕ}
 use native.Mathlib.Omega.{arith}
 use Rattle.lists.specs.Run.{nth, padded}
 use Rattle.lists.proofs.Choice.{below_yes}
-use Rattle.lists.proofs.Order.{zero_not_one}
 use Rattle.lists.proofs.Run.{padded_nth}
 use Rattle.terms.specs.Answer.{answer_carries}
 use Rattle.line.specs.Cases.{b4, b6, b7}
@@ -28,14 +27,14 @@ byte_two bytes ds e = padded_nth bytes 64 3 (nth ds) e (omega arith) 2 (omega ar
 pub refuses_all_breaks : RefusesAllBreaks
 refuses_all_breaks before after r right h =
     let answer = (answers_b before after _ right h).answer in
-    zero_not_one (cc)
+    cc
 
 pub same_decisions_break : SameDecisionsBreak
 same_decisions_break before after before' after' a a' right right' h h' same =
     let zero = byte_two after.decisions (decision_bytes b4) (answers_b before after a right h).held.decisions in
     let thirteen = answers_b13 before' after' a' right' h' in
     let one = byte_two after'.decisions (decision_bytes b6) thirteen.held.decisions in
-    zero_not_one (sym zero ∙ ap (λ (l : List ℕ). nth l 2) same ∙ one)
+    absurd (omega (arith, zero, one, ap (λ (l : List ℕ). nth l 2) same))
 
 pub all_keep_breaks : AllKeepBreaks
 unfolding shown
@@ -44,7 +43,7 @@ all_keep_breaks before after a right h same =
     let one : nth after.decisions 2 ≡ 1
     = padded_nth after.decisions 64 3 _ same (omega arith) 2 (omega arith) (omega arith)
     ∙ below_yes _ _ (omega arith) in
-    zero_not_one (sym zero ∙ one)
+    absurd (omega (arith, zero, one))
 
 pub does_nothing_breaks : DoesNothingBreaks
 does_nothing_breaks b a right other h = other (answers_b b b a right h).held
@@ -66,7 +65,7 @@ repeats_plan_breaks after4 a4 t before after a h =
       λ same.
           let zero = byte_two after4.decisions (decision_bytes b4) old.held.decisions in
           let one = byte_two after.decisions (decision_bytes b7) new.held.decisions in
-          zero_not_one (sym zero ∙ sym (ap (λ (l : List ℕ). nth l 2) same) ∙ one),
+          absurd (omega (arith, zero, one, ap (λ (l : List ℕ). nth l 2) same)),
       λ same.
           let nine : nth after4.delays 1 ≡ 9
           = padded_nth _ 64 3 _ old.held.delays (omega arith) 1 (omega arith) (omega arith) in

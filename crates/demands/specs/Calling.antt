@@ -5,7 +5,6 @@
 --   operations    the operations themselves: nothing more is lent
 -- Assumes nothing.
 use Rattle.std.specs.Prelude.{ℕ, List}
-use Rattle.std.specs.Prelude.{Result}
 use Rattle.terms.specs.Answer.{Answer}
 use Rattle.terms.specs.Answer.{answer_number, answer_place, answer_carries}
 use Rattle.planner.specs.Buffers.{Buffers, RightLengths}

@@ -5,7 +5,8 @@ use mathlib.Core.Logic.{inl, inr}
 use Prim.Native.Nat.{ℕ, ◌+◌, ◌-◌, ◌≤◌, ◌<◌}
 use native.Mathlib.Nat.{le_refl}
 use native.Mathlib.Omega.{arith}
-use Rattle.lists.proofs.Choice.{below_yes, below_no, true_or_false}
+use Rattle.std.proofs.lemmas.Bool.{cases_Bool}
+use Rattle.lists.proofs.Choice.{below_yes, below_no}
 use Rattle.lists.proofs.Induction.{up}
 use Rattle.line.specs.Line.{Running}
 use Rattle.line.specs.Policy.{Keep, Go, Policy, arrival, excess, departure, missed, Day, day_of}
@@ -84,7 +85,7 @@ module _ (R : Running) (p : Policy) (k : ℕ) (pos : 1 ≤ k) (on_time : departu
       departs s l =
           up (λ (j : ℕ). departure R p (start j) ≡ 0) k s l
           (rw (start_first D k) on_time)
-          (λ j a b e. elim (true_or_false (missed R p j)) [
+          (λ j a b e. elim (cases_Bool (missed R p j)) [
             | inl m ↦ rw (start_missed D k j a m) (go_departs R p j (missed_when R p j m).0)
             | inr m ↦ rw (start_maintained D k j m) e
           ])

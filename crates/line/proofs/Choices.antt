@@ -6,7 +6,7 @@ use Prim.Native.Nat.{ℕ, zero, suc, ◌≤◌, ◌<◌}
 use native.Mathlib.Nat.{le_refl}
 use native.Mathlib.Omega.{arith}
 use Rattle.lists.proofs.Choice.{below_yes, below_no}
-use Rattle.lists.proofs.Order.{lt_or_ge}
+use Rattle.std.proofs.lemmas.Bool.{cases_lt}
 use Rattle.line.specs.Policy.{Keep, Go}
 use Rattle.line.specs.Cells.{Table, Book, excess_on, keep_cost, go_cost, lesser, cell_by, Worked, prefer, choice}
 use Rattle.line.proofs.Following.{keep_not_go}
@@ -30,14 +30,14 @@ module _ (x y : ℕ) where
 
   prefer_keep : (e : ℕ) → prefer e x y ≡ Keep → lesser e x y ≡ x
   prefer_keep zero h = refl
-  prefer_keep (suc e) h = elim (lt_or_ge y x) [
+  prefer_keep (suc e) h = elim (cases_lt y x) [
     | inl l ↦ keep_not_go (sym h ∙ below_yes Go Keep l)
     | inr l ↦ omega arith
   ]
 
   prefer_go : (e : ℕ) → prefer e x y ≡ Go → (lesser e x y ≡ y) × (y < x) × (0 < e)
   prefer_go zero h = keep_not_go h
-  prefer_go (suc e) h = elim (lt_or_ge y x) [
+  prefer_go (suc e) h = elim (cases_lt y x) [
     | inl l ↦ (omega arith, l, omega arith)
     | inr l ↦ keep_not_go (sym (below_no Go Keep l) ∙ h)
   ]

@@ -3,7 +3,6 @@
 use mathlib.Core.Path.{◌≡◌, refl, ap, ap₂, sym, subst, ◌∙◌}
 use Prim.Native.Nat.{ℕ, ◌+◌, ◌-◌, ◌*◌, ◌≤◌, ◌<◌}
 use native.Mathlib.Omega.{arith}
-use Rattle.lists.proofs.Choice.{if_same_lem}
 use Rattle.lists.proofs.Induction.{down, up}
 use Rattle.line.specs.Line.{Running, Line}
 use Rattle.line.specs.Policy.{Policy, arrival, excess, departure, missed, Day, day_of, counts, pairs_total, total}
@@ -21,8 +20,11 @@ module _ (k : ℕ) (L M : Line) (D E : Day) (lines : LinesAlike k L M) (days : D
       (counts_last L D t ∙ days.arrival t (omega arith) u ∙ sym (counts_last M E t))
       (λ h c d e.
       counts_next L D h t d
-      ∙ if_same_lem (days.missed (h + 1) (omega arith) (omega arith))
-      (lines.period (h + 1) (omega arith) (omega arith)) e
+      ∙ (rw (
+        days.missed (h + 1) (omega arith) (omega arith),
+        lines.period (h + 1) (omega arith) (omega arith),
+        e,
+      ))
       ∙ sym (counts_next M E h t d))
 
   -- those who board at k or later: trains k to m alone

@@ -9,7 +9,7 @@ use native.Mathlib.Nat.{le_refl, le_of_eq, eq-or-lt_of_le}
 use native.Mathlib.Omega.{arith}
 use Rattle.lists.specs.Choice.{if_below}
 use Rattle.lists.proofs.Choice.{below_yes, below_no}
-use Rattle.lists.proofs.Order.{lt_or_ge}
+use Rattle.std.proofs.lemmas.Bool.{cases_lt}
 use Rattle.lists.proofs.Induction.{up}
 use Rattle.line.specs.Line.{Running}
 use Rattle.line.specs.Policy.{Decision, Keep, Go, Policy, arrival, excess, departure, missed, Day, day_of}
@@ -92,7 +92,7 @@ module _ (B : Book) (c : Table) (k l : ℕ) (rule : ℕ → ℕ → Decision) (p
 
   -- a go of the rule is a miss, on runs that are its policy's
   rule_go_misses : (s : ℕ) → k < s → (j : ℕ) → j ≡ start_of D k s → rule j s ≡ Go → p s ≡ Go → missed R p s ≡ true
-  rule_go_misses s a j e go same = elim (lt_or_ge s l) [
+  rule_go_misses s a j e go same = elim (cases_lt s l) [
     | inl x ↦ keep_not_go (sym (obeys.before j s a x) ∙ go)
     | inr x ↦
         let chosen = ap (λ (i : ℕ). choice B c i s) (sym e) ∙ sym (obeys.after j s a x) ∙ go in

@@ -5,7 +5,6 @@ use mathlib.Core.Logic.{◌⊎◌, inl, inr}
 use mathlib.Core.Bool.{true, false}
 use Prim.Native.Nat.{ℕ, zero, suc, ◌+◌, ◌-◌, ◌≤◌, ◌<◌}
 use native.Mathlib.Omega.{arith}
-use Rattle.lists.proofs.Order.{zero_not_one}
 use Rattle.line.specs.Line.{Running}
 use Rattle.line.specs.Policy.{Decision, Keep, Go, Policy, departs, misses, arrival, excess, departure, missed}
 
@@ -14,7 +13,7 @@ keep_or_go Keep = inl refl
 keep_or_go Go = inr refl
 
 pub keep_not_go : {A : Type 0} → Keep ≡ Go → A
-keep_not_go e = zero_not_one cc
+keep_not_go e = cc
 
 module _ (R : Running) (p : Policy) where
   -- Train 1 departs with delay 0: whatever the slack and the policy.
@@ -77,8 +76,8 @@ module _ (R : Running) (p : Policy) (s : ℕ) where
   missed_when = either (p s) (excess R p s)
     where
       either : (b : Decision) (e : ℕ) → misses b e ≡ true → (b ≡ Go) × (0 < e)
-      either Keep e h = zero_not_one cc
-      either Go zero h = zero_not_one cc
+      either Keep e h = cc
+      either Go zero h = cc
       either Go (suc e) h = (refl, omega arith)
 
   pub go_misses : p s ≡ Go → 0 < excess R p s → missed R p s ≡ true

@@ -8,7 +8,7 @@ use Prim.Native.Nat.{ℕ, ◌+◌, ◌≤◌, ◌<◌}
 use native.Mathlib.Nat.{le_refl, le_trans, le_of_eq, eq-or-lt_of_le}
 use native.Mathlib.Omega.{arith}
 use Rattle.std.specs.Prelude.{if◌then◌else◌}
-use Rattle.lists.proofs.Choice.{if_no, true_or_false}
+use Rattle.std.proofs.lemmas.Bool.{cond-false, cases_Bool}
 use Rattle.line.specs.Line.{Running, Line}
 use Rattle.line.specs.Policy.{Keep, Policy, departure, missed, Day, day_of, pairs_total}
 use Rattle.line.specs.Cells.{Table, Along, aboard, Book, book_of, keep_cost, go_cost, cell_by, Worked, choice}
@@ -61,7 +61,7 @@ module _ (L : Line) (c d : Table) (W : Worked (book_of L) L.trains c d) where
     unfolding run_cost go_cost keep_cost price cell_at
     price_cost s a b =
         let arrives = start_arrives R p k pos on_time s a in
-        elim (true_or_false (missed R p s)) [
+        elim (cases_Bool (missed R p s)) [
           | inl m ↦
               let begin = cell_start B L.trains c d W s (omega arith) b b in
               rw (m, arrives, start_missed D k s a m) (omega (arith, begin))
@@ -71,7 +71,7 @@ module _ (L : Line) (c d : Table) (W : Worked (book_of L) L.trains c d) where
     -- the cell is no more than the price,
     price_le : (s : ℕ) → k ≤ s → s ≤ L.trains → cell_at s ≤ price s
     unfolding price
-    price_le s a b = elim (true_or_false (missed R p s)) [
+    price_le s a b = elim (cases_Bool (missed R p s)) [
       | inl m ↦ elim (eq-or-lt_of_le (start_le D k s a).1) [
         | inl e ↦ unfold cell_at in rw (m, e) (unfold go_cost in omega arith)
         | inr l ↦
@@ -84,7 +84,7 @@ module _ (L : Line) (c d : Table) (W : Worked (book_of L) L.trains c d) where
     -- is the price where a run begins with train k,
     price_first : k ≤ L.trains → cell_at k ≡ price k
     unfolding price cell_at
-    price_first b = elim (true_or_false (missed R p k)) [
+    price_first b = elim (cases_Bool (missed R p k)) [
       | inl m ↦ rw (m, start_first D k) (unfold go_cost in rw (aboard_none L k pos b) (omega arith))
       | inr m ↦ rw (m, start_first D k) (cell_start B L.trains c d W k pos b b)
     ]
@@ -165,5 +165,5 @@ module _ (L : Line) (c d : Table) (W : Worked (book_of L) L.trains c d) where
             let each = falls_each l (L.trains + 1) (run_cost L day k) cell falls_here
             (omega (arith, first_cell, last_cell, by_runs)) s u (omega arith) in
             let price_is : price p k pos on.on_time s ≡ keep_cost B d (start_of day k s) s
-            = unfold price in if_no _ _ (keep_maintains R p s keep) in
+            = unfold price in cond-false _ _ _ (keep_maintains R p s keep) in
             omega (arith, each, price_cost p k pos on.on_time s (omega arith) v, price_is)

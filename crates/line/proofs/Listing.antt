@@ -13,7 +13,7 @@ use lib.ListN.{length, length-append, get_or-append}
 use lib.Seq.{get_or_at}
 use Rattle.lists.specs.Choice.{if_below}
 use Rattle.lists.proofs.Choice.{below_yes, below_no}
-use Rattle.lists.proofs.Order.{lt_or_ge}
+use Rattle.std.proofs.lemmas.Bool.{cases_lt}
 use Rattle.line.specs.Line.{Line}
 use Rattle.line.specs.Policy.{Decision, Keep, Go, Policy, total}
 use Rattle.line.specs.Plan.{FirstDifference, IsPlan}
@@ -48,7 +48,7 @@ alike_next i p q same here s u v = elim (eq-or-lt_of_le v) [
 
 -- where policies that are alike before train i differ there, that is their first difference
 first_is : (m i t : ℕ) (p q : Policy) → 2 ≤ i → AlikeBefore i p q → ¬ (p i ≡ q i) → FirstDifference m p q t → t ≡ i
-first_is m i t p q a same differ first = elim (lt_or_ge t i) [
+first_is m i t p q a same differ first = elim (cases_lt t i) [
   | inl u ↦ absurd (first.differ (same t first.from_two u))
   | inr u ↦ elim (eq-or-lt_of_le u) [ inl e ↦ sym e | inr v ↦ absurd (differ (first.alike i a v)) ]
 ]
@@ -144,7 +144,7 @@ module _ (L : Line) (i n : ℕ) (ds : List Decision) (first : i ≡ length ds + 
 
     found_better : Found L i (suc n) ds (better L xs ys)
     unfolding better
-    found_better = elim (lt_or_ge (total L (policy_from ys)) (total L (policy_from xs))) [
+    found_better = elim (cases_lt (total L (policy_from ys)) (total L (policy_from xs))) [
       | inl h ↦ rw (below_yes ys xs h) record {
         long = found_long Go ys Y;
         begins = found_begins Go ys Y;

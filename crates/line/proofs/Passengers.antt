@@ -6,7 +6,7 @@ use Prim.Native.Nat.{ℕ, ◌+◌, ◌-◌, ◌*◌, ◌≤◌, ◌<◌}
 use native.Mathlib.Omega.{arith}
 use Rattle.std.specs.Prelude.{if◌then◌else◌}
 use Rattle.lists.specs.Run.{run_of}
-use Rattle.lists.proofs.Choice.{if_yes, if_no}
+use Rattle.std.proofs.lemmas.Bool.{cond-true, cond-false}
 use Rattle.lists.proofs.Run.{run_next, run_none}
 use Rattle.lists.proofs.Induction.{down}
 use Rattle.line.specs.Line.{Line}
@@ -45,7 +45,7 @@ module _ {A : Type 0} (D : Day) (f : ℕ → A) (none : A) where
       down (λ (h : ℕ). at_first_missed D h (t + 1) f none ≡ at_first_missed D n (t + 1) f none) i n l refl
       (λ h a b e.
       first_next h t (omega arith)
-      ∙ if_no _ _ (clear (h + 1) (omega arith) (omega arith))
+      ∙ cond-false _ _ _ (clear (h + 1) (omega arith) (omega arith))
       ∙ e)
 
 -- ---- document 01's words
@@ -66,7 +66,7 @@ module _ (D : Day) where
       missed_drops : (i n t : ℕ) → i ≤ n → n < t → D.missed (n + 1) ≡ true → dropped D i (t + 1) ≡ true
       missed_drops i n t l u m = unfold dropped in
           down (λ (h : ℕ). at_first_missed D h (t + 1) (λ s. true) false ≡ true) i n l
-          (first_next D _ false n t u ∙ if_yes _ _ m)
+          (first_next D _ false n t u ∙ cond-true _ _ _ m)
           (λ h a b e. first_next D _ false h t (omega arith) ∙ either (D.missed (h + 1)) _ e)
 
   -- and only then.
@@ -120,7 +120,7 @@ module _ (L : Line) (D : Day) where
   counts_missed i l t a b clear m =
       let here : l - 1 + 1 ≡ l = omega arith in
       first_clear D _ _ i (l - 1) t (omega arith) (omega arith) (λ s u v. clear s u (omega arith))
-      ∙ counts_next (l - 1) t (omega arith) ∙ if_yes _ _ (ap D.missed here ∙ m) ∙ ap L.period here
+      ∙ counts_next (l - 1) t (omega arith) ∙ cond-true _ _ _ (ap D.missed here ∙ m) ∙ ap L.period here
 
 -- ---- the sums of passengers, written with the end outside
 

@@ -8,7 +8,7 @@ use native.Mathlib.Nat.{le_trans, le_of_eq, le_antisymm, eq-or-lt_of_le}
 use native.Mathlib.Omega.{arith}
 use Rattle.lists.specs.Choice.{if_same}
 use Rattle.lists.proofs.Choice.{same_yes, same_no}
-use Rattle.lists.proofs.Order.{same_or_not}
+use Rattle.std.proofs.lemmas.Bool.{cases_eq}
 use Rattle.lists.proofs.Induction.{up}
 use Rattle.line.specs.Line.{Running, Line}
 use Rattle.line.specs.Policy.{Keep, Go, Policy, excess, departure, missed, day_of, total}
@@ -106,7 +106,7 @@ module _ (L : Line) (p : Policy) (s : ℕ) (none : excess L.running p s ≡ 0) w
 
   -- it departs and misses as the policy does
   kept_departs : (i : ℕ) → excess R p i ≡ excess R kept i → departure R p i ≡ departure R kept i
-  kept_departs i e = elim (same_or_not i s) [
+  kept_departs i e = elim (cases_eq i s) [
     | inl h ↦
         let departs = maintained_departs R p s (no_excess_maintains R p s none) in
         rw h (departs ∙ (rw h at e) ∙ sym (keep_departs R kept s kept_here))
@@ -114,7 +114,7 @@ module _ (L : Line) (p : Policy) (s : ℕ) (none : excess L.running p s ≡ 0) w
   ]
 
   kept_misses : (i : ℕ) → excess R p i ≡ excess R kept i → missed R p i ≡ missed R kept i
-  kept_misses i e = elim (same_or_not i s) [
+  kept_misses i e = elim (cases_eq i s) [
     | inl h ↦ rw h (no_excess_maintains R p s none ∙ sym (keep_maintains R kept s kept_here))
     | inr h ↦ unfold missed in rw (kept_elsewhere i h, e)
   ]

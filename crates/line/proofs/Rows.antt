@@ -10,7 +10,7 @@ use lib.ListN.{length, get_or, get_or-eq_default}
 use Rattle.lists.specs.Choice.{if_below}
 use Rattle.lists.specs.Run.{run_of, listed, nth}
 use Rattle.lists.proofs.Choice.{below_yes, below_no}
-use Rattle.lists.proofs.Order.{lt_or_ge}
+use Rattle.std.proofs.lemmas.Bool.{cases_lt}
 use Rattle.lists.proofs.Run.{run_same, listed_length, listed_at}
 use Rattle.line.specs.Cells.{Table, Book, cell_by, Worked}
 use Rattle.line.specs.Answers.{Rows, table_from}
@@ -48,7 +48,7 @@ module _ (m : ℕ) (c : Table) where
   -- no row has an entry for l = m + 1
   row_short : (k : ℕ) → length (get_or (rows_of m c) (k - 1) []) ≤ m + 1 - k + 1 - 1
   unfolding rows_of
-  row_short k = elim (lt_or_ge (k - 1) m) [
+  row_short k = elim (cases_lt (k - 1) m) [
     | inl u ↦ rw (listed_at (row_of m c) [] 1 m (k - 1) u, listed_length (c (1 + (k - 1)))) (omega arith)
     | inr u ↦
         let past : length (rows_of m c) ≤ k - 1 = omega (arith, listed_length (row_of m c) 1 m) in

@@ -10,7 +10,7 @@ use Prim.Native.Nat.{ℕ, ◌+◌, ◌*◌, ◌≤◌}
 use native.Mathlib.Nat.{le_refl, mul_comm, add-zero}
 use native.Mathlib.Omega.{arith}
 use Rattle.std.specs.Prelude.{if◌then◌else◌}
-use Rattle.lists.proofs.Choice.{if_yes, if_no, true_or_false}
+use Rattle.std.proofs.lemmas.Bool.{cond-true, cond-false, cases_Bool}
 use Rattle.line.specs.Sum.{sum◌from◌to◌}
 use Rattle.line.specs.Line.{Line}
 use Rattle.line.specs.Policy.{Policy, Day, day_of, counts, pairs_total, total}
@@ -71,13 +71,13 @@ module _ (L : Line) (D : Day) where
     pairs_next s a b =
         let begin = start_le D k s a in
         let clear = start_clear D k s a in
-        elim (true_or_false (D.missed s)) [
+        elim (cases_Bool (D.missed s)) [
           | inl m ↦
               let next = pairs_clear s s (le_refl s) b (λ r u v. absurd (omega arith)) in
               let gone = pairs_missed (start_of D k s) s (omega arith) begin.1 b clear m in
-              rw (start_missed D k s a m, if_yes (L.period s * aboard L (start_of D k s) s) 0 m) (omega arith)
+              rw (start_missed D k s a m, cond-true _ (L.period s * aboard L (start_of D k s) s) 0 m) (omega arith)
           | inr m ↦
-              rw (start_maintained D k s m, if_no (L.period s * aboard L (start_of D k s) s) 0 m)
+              rw (start_maintained D k s m, cond-false _ (L.period s * aboard L (start_of D k s) s) 0 m)
               (omega (arith, pairs_clear (start_of D k s) s begin.1 b (clear_next D _ s clear m)))
         ]
 

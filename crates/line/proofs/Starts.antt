@@ -9,7 +9,7 @@ use Prim.Native.Nat.{ℕ, zero, suc, ◌+◌, ◌-◌, ◌≤◌, ◌<◌, max}
 use native.Mathlib.Nat.{le_refl, eq-or-lt_of_le}
 use native.Mathlib.Omega.{arith}
 use Rattle.std.specs.Prelude.{if◌then◌else◌}
-use Rattle.lists.proofs.Choice.{if_yes, if_no, true_or_false}
+use Rattle.std.proofs.lemmas.Bool.{cond-true, cond-false, cases_Bool}
 use Rattle.lists.proofs.Induction.{up}
 use Rattle.line.specs.Policy.{Day}
 use Rattle.line.proofs.Passengers.{Clear}
@@ -53,15 +53,15 @@ module _ (D : Day) (k : ℕ) where
   -- a miss begins the next run
   pub start_missed : (s : ℕ) → k ≤ s → D.missed s ≡ true → start_of D k (s + 1) ≡ s
   unfolding start_of
-  start_missed s l m = let e : last_missed D (s + 1) ≡ s = last_next D s ∙ if_yes _ _ m in omega arith
+  start_missed s l m = let e : last_missed D (s + 1) ≡ s = last_next D s ∙ cond-true _ _ _ m in omega arith
 
   pub start_maintained : (s : ℕ) → D.missed s ≡ false → start_of D k (s + 1) ≡ start_of D k s
   unfolding start_of
-  start_maintained s m = let e : last_missed D (s + 1) ≡ last_missed D s = last_next D s ∙ if_no _ _ m in omega arith
+  start_maintained s m = let e : last_missed D (s + 1) ≡ last_missed D s = last_next D s ∙ cond-false _ _ _ m in omega arith
 
   -- train s is on a run that begins with it or before
   pub start_before : (s : ℕ) → k ≤ s → start_of D k (s + 1) ≤ s
-  start_before s l = elim (true_or_false (D.missed s)) [
+  start_before s l = elim (cases_Bool (D.missed s)) [
     | inl m ↦ omega (arith, start_missed s l m)
     | inr m ↦ omega (arith, start_maintained s m, start_le s l)
   ]
@@ -77,7 +77,7 @@ module _ (D : Day) (k : ℕ) where
   start_clear s l =
       up (λ (j : ℕ). Clear D (start_of D k j) j) k s l
       (λ r a b. absurd (omega (arith, start_first)))
-      (λ j a b clear r c d. elim (true_or_false (D.missed j)) [
+      (λ j a b clear r c d. elim (cases_Bool (D.missed j)) [
         | inl m ↦ absurd (omega (arith, start_missed j a m))
         | inr m ↦ clear_next D (start_of D k j) j clear m r (omega (arith, start_maintained j m)) d
       ])
@@ -86,7 +86,7 @@ module _ (D : Day) (k : ℕ) where
   pub start_through : (s : ℕ) → k ≤ s → Clear D k s → start_of D k s ≡ k
   start_through s l clear =
       up (λ (j : ℕ). start_of D k j ≡ k) k s l start_first
-      (λ j a b e. elim (true_or_false (D.missed j)) [
+      (λ j a b e. elim (cases_Bool (D.missed j)) [
         | inr m ↦ start_maintained j m ∙ e
         | inl m ↦ start_missed j a m ∙ elim (eq-or-lt_of_le a) [
           | inl same ↦ sym same
@@ -103,7 +103,7 @@ pub start_alike : (D E : Day) (k s : ℕ) → k < s → ((r : ℕ) → k < r →
     → start_of D k s ≡ start_of E k s
 start_alike D E k s l same =
     up (λ (j : ℕ). start_of D k j ≡ start_of E k j) (k + 1) s (omega arith) (start_second D k ∙ sym (start_second E k))
-    (λ j a b e. elim (true_or_false (D.missed j)) [
+    (λ j a b e. elim (cases_Bool (D.missed j)) [
       | inl m ↦ start_missed D k j (omega arith) m
           ∙ sym (start_missed E k j (omega arith) (sym (same j (omega arith) b) ∙ m))
       | inr m ↦ start_maintained D k j m ∙ e ∙ sym (start_maintained E k j (sym (same j (omega arith) b) ∙ m))

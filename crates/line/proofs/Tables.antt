@@ -8,7 +8,7 @@ use native.Mathlib.Nat.{le_refl, eq-or-lt_of_le}
 use native.Mathlib.Omega.{arith}
 use Rattle.lists.specs.Choice.{if_below}
 use Rattle.lists.proofs.Choice.{below_yes, below_no}
-use Rattle.lists.proofs.Order.{lt_or_ge}
+use Rattle.std.proofs.lemmas.Bool.{cases_lt}
 use Rattle.lists.proofs.Induction.{down}
 use Rattle.line.specs.Cells.{Table, Book, excess_on, arrival_on, keep_cost, go_cost, lesser, cell_by, Worked}
 use Rattle.line.specs.Alike.{BooksAlike}
@@ -34,7 +34,7 @@ module _ (B : Book) (t : ℕ) (c₁ c₂ d₁ d₂ : Table) (W₁ : Worked B t c
   -- a cell, by the next in its row and the one on which the row of its column begins
   cell_same : (k l : ℕ) → 1 ≤ k → k ≤ l → l ≤ B.trains → d₁ k (l + 1) ≡ d₂ k (l + 1)
       → (k < l → d₁ l l ≡ d₂ l l) → d₁ k l ≡ d₂ k l
-  cell_same k l pos a b next first = elim (lt_or_ge t k) [
+  cell_same k l pos a b next first = elim (cases_lt t k) [
     | inl u ↦ W₁.stand k l u a b ∙ rows k l u a b ∙ sym (W₂.stand k l u a b)
     | inr u ↦
         W₁.anew k l pos u a b
@@ -79,7 +79,7 @@ module _ (t : ℕ) (A B : Book) (b c d : Table) (alike : BooksAlike (t + 1) A B)
   reworked_is_worked x =
       record {
         last = new.last;
-        anew = λ k l pos u a v. elim (lt_or_ge t k) [
+        anew = λ k l pos u a v. elim (cases_lt t k) [
           | inr w ↦ new.anew k l pos w a v
           | inl w ↦ later_worked k l pos w a v
         ];
@@ -120,7 +120,7 @@ module _ (B : Book) (t : ℕ) (c : Table) where
 
   begin_is : (l : ℕ) → l ≤ B.trains → begin l ≡ worked_table l l
   unfolding begin
-  begin_is l b = elim (lt_or_ge t l) [
+  begin_is l b = elim (cases_lt t l) [
     | inl u ↦ rw (table_next l l b, below_yes (c l l) (keep l l) u) (sym (below_yes _ _ u))
     | inr u ↦ rw (table_next l l b, excess_on_start B.running l l (le_refl l), below_no (c l l) (keep l l) u)
   ]

@@ -1,18 +1,13 @@
 -- Laws of a list that a loop fills from its first place on:
 -- the start, one place more, and the list once all are filled.
 -- Assumes nothing.
-use mathlib.Core.Path.{◌≡◌, refl, sym, ap, subst, ◌∙◌}
-use mathlib.Core.List.{List}
-use mathlib.Core.Logic.{⊎_elim}
-use Prim.Native.Nat.{ℕ, ◌+◌, ◌-◌, ◌≤◌, ◌<◌}
-use native.Mathlib.Nat.{not-suc-le-zero}
-use native.Mathlib.Omega.{arith}
-use lib.ListN.{length, get_or, set, length-set, replicate, length-replicate, get_or-replicate, get_or-eq_default}
-use lib.Seq.{ext_get_or, get_or-set_same, get_or-set_other}
+use Rattle.std.proofs.Common.{◌≡◌, refl, sym, ap, ◌∙◌, List, ℕ, ◌+◌, ◌-◌, ◌≤◌, ◌<◌, not-suc-le-zero, arith, length, get_or}
+use Rattle.std.proofs.Common.{set, length-set, replicate, ext_get_or, get_or-set_same, get_or-set_other, below_more, inl, inr}
+use Rattle.std.proofs.lemmas.Bool.{cases_lt}
+use Rattle.std.proofs.lemmas.List.{length-replicate, get_or-replicate, get_or_past}
 use Rattle.lists.specs.Run.{padded}
 use Rattle.lists.specs.Filled.{Filled}
-use Rattle.lists.proofs.Order.{lt_or_ge}
-use Rattle.lists.proofs.Run.{padded_ext, padded_past}
+use Rattle.lists.proofs.Run.{padded_ext}
 
 module _ {A : Type 0} (d : A) (f : ℕ → A) where
   pub filled_none : (xs : List A) → Filled d f 0 xs xs
@@ -23,13 +18,8 @@ module _ {A : Type 0} (d : A) (f : ℕ → A) where
   filled_next {n} {old} {new} {v} h l e =
       record {
         long = length-set new n v ∙ h.long;
-        filled = λ k b.
-            ⊎_elim
-            (λ (c : k < n). get_or-set_other new n k v d (λ q. omega arith) ∙ h.filled k c)
-            (λ (c : n ≤ k).
-            let q : n ≡ k = omega arith in
-            subst (λ (j : ℕ). get_or (set new n v) j d ≡ f j) q (get_or-set_same new n v d l ∙ e))
-            (lt_or_ge k n);
+        filled = below_more _ _ (λ k b. get_or-set_other new n k v d (λ q. omega arith) ∙ h.filled k b)
+            (get_or-set_same new n v d l ∙ e);
         others = λ k b. get_or-set_other new n k v d (λ q. omega arith) ∙ h.others k (omega arith);
       }
 
@@ -40,20 +30,11 @@ module _ {A : Type 0} (d : A) (f : ℕ → A) where
       ext_get_or d new xs (h.long ∙ sym e)
       (λ k b. h.filled k (omega (arith, h.long)) ∙ sym (g k (omega (arith, h.long))))
 
--- filled with one value
-pub filled_value : {A : Type 0} (d v : A) {n : ℕ} {old new : List A} → Filled d (λ (k : ℕ). v) n old new
-    → length old ≤ n
-    → new ≡ replicate (length old) v
-filled_value d v {old = old} h l =
-    filled_all d _ (replicate (length old) v) h l (length-replicate (length old) v)
-    (λ k b. get_or-replicate (length old) k v d (omega (arith, length-replicate (length old) v)))
-
 pub zeros_at : (n k : ℕ) → get_or {A = ℕ} (replicate n 0) k 0 ≡ 0
-zeros_at n k =
-    ⊎_elim
-    (λ (l : k < n). get_or-replicate n k 0 0 l)
-    (λ (l : n ≤ k). get_or-eq_default (replicate n 0) 0 (omega (arith, length-replicate {A = ℕ} n 0)))
-    (lt_or_ge k n)
+zeros_at n k = elim (cases_lt k n) [
+  | inl l ↦ get_or-replicate n k 0 0 l
+  | inr l ↦ get_or_past (replicate n 0) k 0 (omega (arith, length-replicate {A = ℕ} n 0))
+]
 
 -- filled over zeros
 pub filled_padded : (f : ℕ → ℕ) (size n : ℕ) {new : List ℕ} → Filled 0 f n (replicate size 0) new
@@ -68,4 +49,4 @@ pub filled_counted : (f : ℕ → ℕ) (size n : ℕ) (new : List ℕ) → Fille
     → new ≡ padded size n f
 filled_counted f size n new h =
     padded_ext size n f new (h.long ∙ length-replicate size 0) (λ k a b. h.filled k a)
-    (λ k a. ap (λ (xs : List ℕ). get_or xs k 0) (filled_padded _ size n h) ∙ padded_past size n _ k a)
+    (λ k a. h.others k a ∙ zeros_at size k)

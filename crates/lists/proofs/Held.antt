@@ -1,15 +1,10 @@
 -- Laws of a list by train or station, counted from 1, that a loop fills in either direction.
 --   Held xs f a b   entries a to b - 1 of xs are those of f
 -- Assumes nothing.
-use mathlib.Core.Path.{◌≡◌, ap, ◌∙◌}
-use mathlib.Core.List.{List}
-use mathlib.Core.Logic.{inl, inr}
-use Prim.Native.Nat.{ℕ, ◌-◌, ◌≤◌, ◌<◌}
-use native.Mathlib.Omega.{arith}
-use lib.ListN.{length, get_or, set}
-use lib.Seq.{get_or-set_same, get_or-set_other}
+use Rattle.std.proofs.Common.{◌≡◌, ap, ◌∙◌, List, inl, inr, ℕ, ◌-◌, ◌≤◌, ◌<◌, arith, length, get_or, set}
+use Rattle.std.proofs.Common.{get_or-set_same, get_or-set_other}
+use Rattle.std.proofs.lemmas.Bool.{cases_eq}
 use Rattle.lists.specs.Run.{nth}
-use Rattle.lists.proofs.Order.{same_or_not}
 
 abbrev pub Held : List ℕ → (ℕ → ℕ) → ℕ → ℕ → Type 0
 Held xs f a b = (l : ℕ) → a ≤ l → l < b → nth xs l ≡ f l
@@ -28,7 +23,7 @@ module _ (xs : List ℕ) (k i v : ℕ) (at : k ≡ i - 1) (least : 1 ≤ i) wher
   -- entry i is stored, and the others were there
   pub held_set : (f : ℕ → ℕ) (a b : ℕ) → 1 ≤ a → k < length xs → v ≡ f i
       → ((l : ℕ) → a ≤ l → l < b → ¬ (l ≡ i) → nth xs l ≡ f l) → Held (set xs k v) f a b
-  held_set f a b pos room e others l u w = elim (same_or_not l i) [
+  held_set f a b pos room e others l u w = elim (cases_eq l i) [
     | inl same ↦ rw same (nth_set room ∙ e)
     | inr not ↦ nth_set_other l (omega arith) not ∙ others l u w not
   ]

@@ -1,8 +1,6 @@
 -- Induction over the numbers from a to b, downward and upward.
 -- Assumes nothing.
-use mathlib.Core.Path.{◌≡◌, subst}
-use Prim.Native.Nat.{ℕ, zero, suc, ◌+◌, ◌-◌, ◌≤◌, ◌<◌}
-use native.Mathlib.Omega.{arith}
+use Rattle.std.proofs.Common.{◌≡◌, subst, ℕ, zero, suc, ◌+◌, ◌-◌, ◌≤◌, ◌<◌, arith}
 
 module _ (P : ℕ → Type 0) (a b : ℕ) where
   down_by : ((i : ℕ) → a ≤ i → i < b → P (i + 1) → P i) → P b → (n i : ℕ) → a ≤ i → i + n ≡ b → P i

@@ -1,4 +1,3 @@
-pub mod Order
 pub mod Induction
 pub mod Choice
 pub mod Run

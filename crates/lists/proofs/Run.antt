@@ -2,17 +2,12 @@
 -- equal places; and of the lists made of a run. A loop states what it has still to
 -- do as a run that equals its goal: `run_next` is its turn, `run_none` its end.
 -- Assumes nothing.
-use mathlib.Core.Path.{◌≡◌, refl, sym, ap, ap₂, subst, ◌∙◌}
-use mathlib.Core.List.{List}
-use mathlib.Core.Logic.{⊎_elim}
-use Prim.Native.Nat.{ℕ, zero, suc, ◌+◌, ◌-◌, ◌≤◌, ◌<◌}
-use native.Mathlib.Nat.{not-suc-le-zero, le_of_suc-le-suc, add-zero}
-use native.Mathlib.Omega.{arith}
-use lib.ListN.{length, get_or, get_or-eq_default}
-use lib.Seq.{ext_get_or}
+use Rattle.std.proofs.Common.{◌≡◌, refl, sym, ap, ap₂, subst, ◌∙◌, List, ℕ, zero, suc, ◌+◌, ◌-◌, ◌≤◌, ◌<◌}
+use Rattle.std.proofs.Common.{inl, inr, not-suc-le-zero, le_of_suc-le-suc, add-zero, arith, length, get_or, ext_get_or}
+use Rattle.std.proofs.lemmas.Bool.{cases_lt}
+use Rattle.std.proofs.lemmas.List.{get_or_past}
 use Rattle.lists.specs.Run.{run_of, listed, padded, nth}
 use Rattle.lists.proofs.Choice.{below_yes, below_no}
-use Rattle.lists.proofs.Order.{lt_or_ge}
 
 module _ {A B : Type 0} (step : A → B → B) (done : B) where
   pub run_next : (f : ℕ → A) (i n : ℕ) → 0 < n
@@ -62,11 +57,10 @@ padded_at size n f k l m =
 
 pub padded_past : (size n : ℕ) (f : ℕ → ℕ) (k : ℕ) → n ≤ k → get_or (padded size n f) k 0 ≡ 0
 unfolding padded
-padded_past size n f k l =
-    ⊎_elim
-    (λ (m : k < size). listed_at _ 0 1 size k m ∙ below_yes _ _ (omega arith))
-    (λ (m : size ≤ k). get_or-eq_default (padded size n f) 0 (rw (padded_length size n f) m))
-    (lt_or_ge k size)
+padded_past size n f k l = elim (cases_lt k size) [
+  | inl m ↦ listed_at _ 0 1 size k m ∙ below_yes _ _ (omega arith)
+  | inr m ↦ get_or_past (padded size n f) k 0 (rw (padded_length size n f) m)
+]
 
 -- place i, from 1, of a list that is this one
 pub padded_nth : (l : List ℕ) (size n : ℕ) (f : ℕ → ℕ) → l ≡ padded size n f → n ≤ size → (i : ℕ) → 1 ≤ i → i ≤ n
@@ -83,10 +77,10 @@ padded_ext size n f l e g h =
     ext_get_or 0 l (padded size n f) (e ∙ sym (padded_length size n f))
     (λ k b.
     let m : k < size = omega arith in
-    ⊎_elim
-    (λ (c : k < n). g k c m ∙ sym (padded_at size n f k c m))
-    (λ (c : n ≤ k). h k c ∙ sym (padded_past size n f k c))
-    (lt_or_ge k n))
+    elim (cases_lt k n) [
+      | inl c ↦ g k c m ∙ sym (padded_at size n f k c m)
+      | inr c ↦ h k c ∙ sym (padded_past size n f k c)
+    ])
 
 -- equal where f and g are, on 1 to n
 pub padded_same : (size n : ℕ) (f g : ℕ → ℕ) → ((i : ℕ) → 1 ≤ i → i ≤ n → f i ≡ g i)
@@ -94,11 +88,10 @@ pub padded_same : (size n : ℕ) (f g : ℕ → ℕ) → ((i : ℕ) → 1 ≤ i 
 unfolding padded listed
 padded_same size n f g same =
     run_same _ _ _ _ 1 size
-    (λ i a b.
-    ⊎_elim
-    (λ (u : n < i). below_yes _ _ u ∙ sym (below_yes _ _ u))
-    (λ (u : i ≤ n). below_no _ _ u ∙ same i a u ∙ sym (below_no _ _ u))
-    (lt_or_ge n i))
+    (λ i a b. elim (cases_lt n i) [
+      | inl u ↦ below_yes _ _ u ∙ sym (below_yes _ _ u)
+      | inr u ↦ below_no _ _ u ∙ same i a u ∙ sym (below_no _ _ u)
+    ])
 
 -- ---- functions whose values are listed
 

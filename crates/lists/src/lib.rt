@@ -1,40 +1,4 @@
-// Lists that a loop fills place by place. The laws in proofs/ serve every loop of the project, at
-// any element.
+// Lists that loops fill, runs of places, and what a test chooses, as mathematics: the laws that
+// serve every loop of the project, at any element. No code: the definitions are in specs/, the laws
+// in proofs/.
 #![tactic(auto)]
-
-ghost use Rattle.std.specs.Prelude.{◌≡◌, length, replicate};
-
-// Every byte of `list` becomes `value`.
-pub fn fill_u8(list: &mut [u8], value: u8)
-    ensures { list.new ≡ replicate (length list.old) value }
-{
-    let mut k = 0;
-    while k < list.len() {
-        list[k] = value;
-        k += 1;
-    }
-}
-
-// Every number of `list` becomes `value`.
-pub fn fill_u32(list: &mut [u32], value: u32)
-    ensures { list.new ≡ replicate (length list.old) value }
-{
-    let mut k = 0;
-    while k < list.len() {
-        list[k] = value;
-        k += 1;
-    }
-}
-
-// `list` becomes `from`, which is as long.
-#[tactic(auto, using(crate::proofs::Fill::filled_all))]
-pub fn copy_u32(list: &mut [u32], from: &[u32])
-    requires { length from.now ≡ length list.old }
-    ensures { list.new ≡ from.now }
-{
-    let mut k = 0;
-    while k < list.len() {
-        list[k] = from[k];
-        k += 1;
-    }
-}

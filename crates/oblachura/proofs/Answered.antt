@@ -9,7 +9,7 @@ use mathlib.Core.Logic.{inl, inr}
 use mathlib.Core.List.{List}
 use lib.ListN.{length}
 use Rattle.lists.specs.Run.{nth}
-use Rattle.lists.proofs.Order.{same_or_not}
+use Rattle.std.proofs.lemmas.Bool.{cases_eq}
 use Rattle.terms.specs.declared.Refusal.{Refusal}
 use Rattle.terms.specs.Verdict.{Verdict}
 use Rattle.terms.specs.Answer.{Answer}
@@ -62,7 +62,7 @@ module _ (list : List ℕ) {checks : Verdict} {Passes : Type 0} {m last : ℕ} {
     (ran : length list ≡ 3 → Ran a (Answered operations checks Passes m last tt before after))
     (kept : ¬ (length list ≡ 3) → (a.returned ≡ 10) × (after ≡ before)) where
   listed : a.returned ≡ 0 → length list ≡ 3
-  listed zero = elim (same_or_not (length list) 3) [
+  listed zero = elim (cases_eq (length list) 3) [
     | inl long ↦ long
     | inr other ↦ ten_not_zero (kept other).0 zero
   ]
@@ -86,7 +86,7 @@ module _ (list : List ℕ) {checks : Verdict} {Passes : Type 0} {m last : ℕ} {
         blanks = λ right refused.
             let run = ran right.beside in
             run.of.blanks (all_right right.buffers) (λ zero. refused (run.tells.number ∙ zero));
-        untouched = λ wrong. elim (same_or_not (length list) 3) [
+        untouched = λ wrong. elim (cases_eq (length list) 3) [
           | inl long ↦
               let same = (ran long).of.untouched (λ right.
               wrong (record { beside = long; buffers = right.buffers })) in
@@ -94,7 +94,7 @@ module _ (list : List ℕ) {checks : Verdict} {Passes : Type 0} {m last : ℕ} {
           | inr other ↦ kept other
         ];
         others = λ zero. (ran (listed zero)).of.others (ran_zero zero);
-        lengths = elim (same_or_not (length list) 3) [
+        lengths = elim (cases_eq (length list) 3) [
           | inl long ↦ (ran long).of.lengths
           | inr other ↦
               let same = (kept other).1 in
@@ -174,13 +174,13 @@ module _ (list s : List ℕ) (i v : ℕ) (before : Buffers) (t : List ℕ) (afte
         over = λ right ok b c d k f.
             let run = operation_answered right.beside in
             carries run.tells (run.of.over (all_right right.buffers) ok b c d k f);
-        sheet = λ refused. elim (same_or_not (length list) 3) [
+        sheet = λ refused. elim (cases_eq (length list) 3) [
           | inl long ↦
               let run = operation_answered long in
               run.of.sheet (λ zero. refused (run.tells.number ∙ zero))
           | inr other ↦ sheet_kept other
         ];
-        sheet_length = elim (same_or_not (length list) 3) [
+        sheet_length = elim (cases_eq (length list) 3) [
           | inl long ↦ (operation_answered long).of.sheet_length
           | inr other ↦ ap length (sheet_kept other)
         ];

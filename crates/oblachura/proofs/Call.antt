@@ -6,7 +6,7 @@ use mathlib.Core.Path.{◌≡◌, refl, ap, sym, ◌∙◌}
 use mathlib.Core.Logic.{inl, inr}
 use mathlib.Core.List.{List, ◌∷◌}
 use lib.ListN.{length}
-use Rattle.lists.proofs.Order.{same_or_not}
+use Rattle.std.proofs.lemmas.Bool.{cases_eq}
 use Rattle.terms.specs.declared.ListFault.TheVariants.{BufferLength}
 use Rattle.terms.specs.declared.Refusal.TheVariants.{OfList}
 use Rattle.terms.specs.Verdict.{Verdict}
@@ -38,7 +38,7 @@ module _ {X A : Type 0} {n : ℕ} {number : A → ℕ} {numbers : A → List ℕ
   -- where the operation leaves nothing open, neither does the call
   pub call_one : ((after after' : X) (a a' : A) → Leaves after a → Leaves after' a' → (a ≡ a') × (after ≡ after'))
       → One (Call n number numbers Leaves before list)
-  call_one one after after' stored stored' r r' g h = elim (same_or_not (length list) n) [
+  call_one one after after' stored stored' r r' g h = elim (cases_eq (length list) n) [
     | inl long ↦
         let t : Told number numbers (Leaves after) stored r = g.told long in
         let u : Told number numbers (Leaves after') stored' r' = h.told long in
@@ -66,7 +66,7 @@ module _ {X A : Type 0} {n : ℕ} {number : A → ℕ} {numbers : A → List ℕ
         listed = listed;
         stores = λ long. (h.told long).stores ∙ (carries (h.told long).answer (h.told long).done).1;
         wrong_list = λ other. ((h.wrong_list other).returns, (h.wrong_list other).stores);
-        zero = λ e. elim (same_or_not (length list) n) [
+        zero = λ e. elim (cases_eq (length list) n) [
           | inl long ↦ (long, zero_is_fine checks (sym (listed long) ∙ e))
           | inr other ↦ let ten = (h.wrong_list other).returns in absurd (omega (arith, e, ten))
         ];

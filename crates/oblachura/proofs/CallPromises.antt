@@ -5,7 +5,7 @@ use mathlib.Core.Path.{◌≡◌, ap, sym, ◌∙◌}
 use mathlib.Core.Logic.{inl, inr}
 use mathlib.Core.List.{List, ◌∷◌, []}
 use lib.ListN.{length}
-use Rattle.lists.proofs.Order.{same_or_not}
+use Rattle.std.proofs.lemmas.Bool.{cases_eq}
 use Rattle.terms.specs.Verdict.{Verdict}
 use Rattle.terms.specs.Answer.{Answer}
 use Rattle.terms.specs.Verdict.{number_in, place_in}
@@ -30,7 +30,7 @@ use Rattle.oblachura.proofs.Demands.{demands}
 
 plan_refuses : (s : List ℕ) (before : Buffers) (list : List ℕ) (after : Buffers) (stored : List ℕ) (r : ℕ)
     → PlanCall s before list after stored r → Refuses before after r
-plan_refuses s before list after stored r h = elim (same_or_not (length list) 3) [
+plan_refuses s before list after stored r h = elim (cases_eq (length list) 3) [
   | inl long ↦ let t = h.told long in outcome_refuses _ _ t.answer t.returns t.done
   | inr other ↦ let w = h.wrong_list other in kept_refuses w.returns w.kept
 ]
@@ -38,7 +38,7 @@ plan_refuses s before list after stored r h = elim (same_or_not (length list) 3)
 report_refuses : (i v : ℕ) (before : Lent) (list : List ℕ) (after : Lent) (stored : List ℕ) (r : ℕ)
     → ReportCall i v before list after stored r
     → Refuses before.buffers after.buffers r × (¬ (r ≡ 0) → after.sheet ≡ before.sheet)
-report_refuses i v before list after stored r h = elim (same_or_not (length list) 3) [
+report_refuses i v before list after stored r h = elim (cases_eq (length list) 3) [
   | inl long ↦
       let t = h.told long in (
         outcome_refuses _ _ t.answer t.returns t.done.outcome,

@@ -6,7 +6,7 @@ use mathlib.Core.Path.{◌≡◌, refl, sym, subst, ◌∙◌}
 use mathlib.Core.Logic.{inl, inr}
 use mathlib.Core.List.{List}
 use lib.ListN.{length}
-use Rattle.lists.proofs.Order.{same_or_not}
+use Rattle.std.proofs.lemmas.Bool.{cases_eq}
 use Rattle.bits.specs.Field.{Bytes}
 use Rattle.terms.specs.declared.ListFault.TheVariants.{BufferLength}
 use Rattle.terms.specs.declared.Refusal.TheVariants.{OfList}
@@ -43,7 +43,7 @@ unlisted list = record { returned = number_of (OfList BufferLength); stored = li
 
 plan_possible : (list s : List ℕ) (before : Buffers) → PlanPossible from_c list s before
 unfolding result_of unlisted
-plan_possible list s before = elim (same_or_not (length list) 3) [
+plan_possible list s before = elim (cases_eq (length list) 3) [
   | inl long ↦
       let found = demand_1.every_sheet tt s before in
       record {
@@ -56,7 +56,7 @@ plan_possible list s before = elim (same_or_not (length list) 3) [
 
 report_possible : (list s : List ℕ) → Bytes s → (i v : ℕ) (before : Buffers) → ReportPossible from_c list s i v before
 unfolding result_of unlisted
-report_possible list s bytes i v before = elim (same_or_not (length list) 3) [
+report_possible list s bytes i v before = elim (cases_eq (length list) 3) [
   | inl long ↦
       let found = demand_1.every_report tt s bytes i v before in
       record {

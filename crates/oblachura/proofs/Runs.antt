@@ -6,7 +6,7 @@ use mathlib.Core.Path.{◌≡◌, ap, sym, ◌∙◌}
 use mathlib.Core.Logic.{inl, inr}
 use mathlib.Core.List.{List}
 use lib.ListN.{length, get_or}
-use Rattle.lists.proofs.Order.{same_or_not}
+use Rattle.std.proofs.lemmas.Bool.{cases_eq}
 use Rattle.terms.specs.Answer.{answer_number}
 use Rattle.sheet.specs.Format.{trains_of}
 use Rattle.planner.specs.Buffers.{Buffers}
@@ -28,13 +28,13 @@ same_cells = ap (λ (b : Buffers). b.cells)
 -- ---- a run of calls is a run of operations
 
 run_of_operations : {s cells : List ℕ} → InRun from_c s cells → InRun operations s cells
-run_of_operations (planned list s before after a h zero) = elim (same_or_not (length list) 3) [
+run_of_operations (planned list s before after a h zero) = elim (cases_eq (length list) 3) [
   | inl long ↦
       let ran = plan_ran list s before after a h long in
       planned tt s before after ran.answer ran.of (sym ran.tells.number ∙ zero)
   | inr other ↦ ten_not_zero (plan_kept list s before after a h other).0 zero
 ]
-run_of_operations (reported list s i v before t after a run h) = elim (same_or_not (length list) 3) [
+run_of_operations (reported list s i v before t after a run h) = elim (cases_eq (length list) 3) [
   | inl long ↦
       let ran = report_ran list s i v before t after a h long in
       reported tt s i v before t after ran.answer (run_of_operations run) ran.of
@@ -45,7 +45,7 @@ run_of_operations (reported list s i v before t after a run h) = elim (same_or_n
       ) (run_of_operations run)
 ]
 run_of_operations (refused_with_other_cells list s cells i v before t after a run h refused) =
-    elim (same_or_not (length list) 3) [
+    elim (cases_eq (length list) 3) [
       | inl long ↦
           let ran = report_ran list s i v before t after a h long in
           refused_with_other_cells tt s cells i v before t after ran.answer (run_of_operations run) ran.of
@@ -53,14 +53,14 @@ run_of_operations (refused_with_other_cells list s cells i v before t after a ru
       | inr other ↦ rw (sheet_kept list s i v before t after a h other) (run_of_operations run)
     ]
 run_of_operations (refused_with_other_sheet list s u i v before t after a run h refused) =
-    elim (same_or_not (length list) 3) [
+    elim (cases_eq (length list) 3) [
       | inl long ↦
           let ran = report_ran list u i v before t after a h long in
           refused_with_other_sheet tt s u i v before t after ran.answer (run_of_operations run) ran.of
           (λ zero. refused (ran.tells.number ∙ zero))
       | inr other ↦ rw (same_cells (report_kept list u i v before t after a h other).1) (run_of_operations run)
     ]
-run_of_operations (refused_plan list s u before after a run h refused) = elim (same_or_not (length list) 3) [
+run_of_operations (refused_plan list s u before after a run h refused) = elim (cases_eq (length list) 3) [
   | inl long ↦
       let ran = plan_ran list u before after a h long in
       refused_plan tt s u before after ran.answer (run_of_operations run) ran.of
@@ -141,7 +141,7 @@ module _ (list s : List ℕ) (i v : ℕ) (before : Buffers) (t : List ℕ) (afte
         }
 
   pub report_in_run : ReportInRun from_c list s i v before t after a
-  report_in_run = elim (same_or_not (length list) 3) [
+  report_in_run = elim (cases_eq (length list) 3) [
     | inl long ↦ told_in_run long
     | inr other ↦ unlisted_in_run other
   ]

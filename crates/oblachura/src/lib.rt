@@ -15,7 +15,8 @@ ghost use Rattle.oblachura.specs.Calls.{ReadCall, WriteCall, PlanCall, lent, Rep
 use crate::telling::{ANSWER, READ_ANSWER, tell_answer, tell_reading, wrong_list};
 use planner::{plan, report};
 use reader::read;
-use terms::Train;
+use sheet::numbers::Lists;
+use terms::{Head, Train};
 use writer::write;
 
 // Reads a sheet into the lent lists; the answer is number, place, m and T.
@@ -62,10 +63,14 @@ pub fn oblachura_write(
     if answer.len() != ANSWER {
         return wrong_list();
     }
-    tell_answer(
-        write(m, period, departures, driving, delays, passengers, sheet),
-        answer,
-    )
+    let head = Head { trains: m, period };
+    let numbers = Lists {
+        departures,
+        driving,
+        delays,
+        passengers,
+    };
+    tell_answer(write(head, numbers, sheet), answer)
 }
 
 // Plans the line of a sheet; the answer is number, place and total.

@@ -4,14 +4,15 @@
 // 3,908 bytes, which is enough to refuse it.
 #![tactic(auto)]
 
-ghost use Rattle.std.specs.Prelude.{◌≤◌, length, IfOk};
+ghost use Rattle.std.specs.Prelude.{◌≡◌, ◌≤◌, length, IfOk};
+ghost use Rattle.sheet.specs.Accepted.{AcceptedSheet};
+ghost use Rattle.sheet.specs.Format.{trains_of};
 
 use bits::field;
 use planner::plan;
 use sheet::format::{TRAINS_AT, TRAINS_WIDTH};
 use std::io;
 use std::io::{Read, Write};
-use terms::{Answer, Refusal, Train};
 
 // Reads until the buffer is full or the input ends, and answers how many bytes were read.
 fn read_full<R: Read>(from: &mut R, buffer: &mut [u8]) -> io::Result<usize>
@@ -21,60 +22,38 @@ fn read_full<R: Read>(from: &mut R, buffer: &mut [u8]) -> io::Result<usize>
     while n < buffer.len() {
         let more = from.read(&mut buffer[n..])?;
         if more == 0 {
-            return Ok(n);
+            break;
         }
         n += more;
     }
     Ok(n)
 }
 
-fn print_refusal<W: Write>(out: &mut W, refusal: Refusal) -> io::Result<()> {
-    say::word(out, b"refused")?;
-    say::next(out, refusal.number() as u64)?;
-    say::next(out, refusal.place() as u64)?;
-    say::end(out)
-}
-
-fn print_total<W: Write>(out: &mut W, total: u64) -> io::Result<()> {
-    say::word(out, b"total")?;
-    say::next(out, total)?;
-    say::end(out)
-}
-
 // Train 1 has no feeder to wait for.
-fn print_decision<W: Write>(out: &mut W, train: Train, decision: u8) -> io::Result<()> {
-    if train.0 == 1 {
-        say::word(out, b" -")
-    } else if decision == 1 {
-        say::word(out, b" keep")
-    } else {
-        say::word(out, b" go")
+fn word(train: usize, decision: u8) -> &'static str {
+    match (train, decision) {
+        (1, _) => "-",
+        (_, 1) => "keep",
+        _ => "go",
     }
 }
 
-fn print_train<W: Write>(out: &mut W, train: Train, decision: u8, delay: u32) -> io::Result<()> {
-    say::number(out, train.0 as u64)?;
-    print_decision(out, train, decision)?;
-    say::next(out, delay as u64)?;
-    say::end(out)
-}
-
-fn print_trains<W: Write>(
-    out: &mut W,
-    m: u32,
-    decisions: &[u8; 64],
-    delays: &[u32; 64],
-) -> io::Result<()>
-    requires { m ≤ 64 }
-{
-    let mut i: u32 = 1;
-    while i <= m {
-        let train = Train(i);
-        let at = train.index();
-        print_train(out, train, decisions[at], delays[at])?;
-        i += 1;
+// The trains, one line each.
+fn print_trains<W: Write>(out: &mut W, decisions: &[u8], delays: &[u32]) -> io::Result<()> {
+    for (train, (decision, delay)) in (1..).zip(decisions.iter().zip(delays)) {
+        writeln!(out, "{train} {} {delay}", word(train, *decision))?;
     }
     Ok(())
+}
+
+// The number of trains of an accepted sheet.
+#[tactic(auto, using(crate::proofs::Head::head_within))]
+fn trains(sheet: &[u8]) -> usize
+    requires { AcceptedSheet sheet.now }
+    ensures is { result ≡ trains_of sheet.now }
+    ensures most { result ≤ 64 }
+{
+    field(sheet, TRAINS_AT, TRAINS_WIDTH) as usize
 }
 
 fn main(rt: HostRuntime) -> io::Result<()> {
@@ -87,11 +66,11 @@ fn main(rt: HostRuntime) -> io::Result<()> {
     let answer = plan(sheet, &mut cells, &mut decisions, &mut delays);
     let mut out = rt.stdout();
     match answer {
-        Answer::Refused(refusal) => print_refusal(&mut out, refusal),
-        Answer::Accepted(total) => {
-            print_total(&mut out, total)?;
-            let m = field(sheet, TRAINS_AT, TRAINS_WIDTH);
-            print_trains(&mut out, m, &decisions, &delays)
+        Err(refusal) => { writeln!(out, "refused {} {}", refusal.number(), refusal.place()) }
+        Ok(total) => {
+            writeln!(out, "total {total}")?;
+            let m = trains(sheet);
+            print_trains(&mut out, &decisions[..m], &delays[..m])
         }
     }
 }

@@ -5,63 +5,47 @@
 #![tactic(auto)]
 
 mod changes;
-mod lengths;
+mod lent;
 mod marks;
 mod plans;
 mod printed;
 mod runs;
 mod shown;
 
-use records::source;
-use records::source::byte;
+use crate::shown::Shown;
+use records::{Kind, source};
 use std::io;
 use std::io::{Read, Write};
 
-// The letter a record begins with.
-const NAME: u32 = 78;
-
-const SUMS: u32 = 80;
-
-const LISTS: u32 = 76;
-
-const RUN_SUMS: u32 = 82;
-
-const RUN_LISTS: u32 = 70;
-
-// One record of a kind; false where there is none.
-fn record<R: Read, W: Write>(from: &mut R, out: &mut W, kind: u32) -> io::Result<bool> {
-    if kind == NAME {
-        source::name(from, out)?;
-        return Ok(true);
-    }
-    if kind == SUMS {
-        plans::record(from, out, false)?;
-        return Ok(true);
-    }
-    if kind == LISTS {
-        plans::record(from, out, true)?;
-        return Ok(true);
-    }
-    if kind == RUN_SUMS {
-        runs::record(from, out, false)?;
-        return Ok(true);
-    }
-    if kind == RUN_LISTS {
-        runs::record(from, out, true)?;
-        return Ok(true);
-    }
-    Ok(false)
+// What a record asks for, and how the lists are shown.
+#[derive(Clone, Copy)]
+enum Asked {
+    Name,
+    Plan(Shown),
+    Run(Shown),
 }
 
-// Up to 100,000 records.
-pub fn run<R: Read, W: Write>(from: &mut R, out: &mut W) -> io::Result<()> {
-    let mut left: u32 = 100000;
-    while 0 < left {
-        let kind = byte(from)?;
-        if !record(from, out, kind)? {
-            return Ok(());
+impl Kind for Asked {
+    fn of_letter(letter: u8) -> Option<Asked> {
+        match letter {
+            b'N' => Some(Asked::Name),
+            b'P' => Some(Asked::Plan(Shown::Sums)),
+            b'L' => Some(Asked::Plan(Shown::Full)),
+            b'R' => Some(Asked::Run(Shown::Sums)),
+            b'F' => Some(Asked::Run(Shown::Full)),
+            _ => None,
         }
-        left -= 1;
     }
-    Ok(())
+
+    fn run<R: Read, W: Write>(self, from: &mut R, out: &mut W) -> io::Result<()> {
+        match self {
+            Asked::Name => source::name(from, out),
+            Asked::Plan(shown) => plans::record(from, out, shown),
+            Asked::Run(shown) => runs::record(from, out, shown),
+        }
+    }
+}
+
+pub fn run<R: Read, W: Write>(from: &mut R, out: &mut W) -> io::Result<()> {
+    records::run::<Asked, _, _>(from, out)
 }

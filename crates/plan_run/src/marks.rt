@@ -3,15 +3,15 @@
 ghost use Rattle.std.specs.Prelude.{◌≡◌, ℕ, ◌*◌};
 ghost use Rattle.lists.specs.Run.{listed};
 
+use crate::lent::CELLS;
+
 // As many cells as a record can lend, each with its mark.
-pub fn all() -> [u64; 4100]
+pub fn all() -> [u64; CELLS]
     ensures { result ≡ listed (λ (k : ℕ). k * 1000003) 1 4100 }
 {
-    let mut cells = [0u64; 4100];
-    let mut k = 0;
-    while k < 4100 {
-        cells[k] = (k as u64 + 1) * 1000003;
-        k += 1;
+    let mut cells = [0u64; CELLS];
+    for (k, cell) in cells.iter_mut().enumerate() {
+        *cell = (k as u64 + 1) * 1_000_003;
     }
     cells
 }

@@ -1,66 +1,64 @@
-// What plan or report answered and left, as it is printed behind the operation's name.
-ghost use Rattle.std.specs.Prelude.{◌≤◌};
+// What plan or report left, as it is printed behind the answer.
+ghost use Rattle.std.specs.Prelude.{◌≡◌, ◌≤◌, IfSome};
+ghost use Rattle.records.specs.Weighed.{sum_of};
 
+use crate::lent::Lists;
 use crate::printed;
+use crate::printed::Listed;
 use records::sums;
-use std::io;
 use std::io::Write;
+use std::{fmt, io};
 use terms::Answer;
 
-// The three numbers of the answer.
-pub fn answer<W: Write>(out: &mut W, a: Answer) -> io::Result<()> {
-    say::next(out, a.number() as u64)?;
-    say::next(out, a.place() as u64)?;
-    say::next(out, a.carries())
+// How the lists are shown.
+#[derive(Clone, Copy)]
+pub enum Shown {
+    Sums,
+    Full,
 }
 
 // The lists as sums.
-pub fn sums_of<W: Write>(
-    out: &mut W,
-    cells: &[u64],
-    decisions: &[u8],
-    delays: &[u32],
-) -> io::Result<()> {
-    say::next(out, sums::bytes(decisions))?;
-    say::next(out, sums::numbers(delays))?;
-    say::next(out, sums::longs(cells))
+#[derive(Clone, Copy)]
+pub struct Sums {
+    decisions: u64,
+    delays: u64,
+    cells: u64,
 }
 
-// The first seven of a byte's eight bits.
-fn half(b: u8) -> usize
-    ensures { result ≤ 127 }
+impl fmt::Display for Sums {
+    fn fmt<W: fmt::Write>(&self, f: &mut fmt::Formatter<W>) -> fmt::Result {
+        write!(f, "{} {} {}", self.decisions, self.delays, self.cells)
+    }
+}
+
+pub fn sums_of(lists: Lists) -> Sums
+    ensures decisions { result.decisions ≡ sum_of lists.entry.decisions.now }
+    ensures delays { result.delays ≡ sum_of lists.entry.delays.now }
+    ensures cells { result.cells ≡ sum_of lists.entry.cells.now }
 {
-    (b / 2) as usize
+    Sums {
+        decisions: sums::of(lists.decisions),
+        delays: sums::of(lists.delays),
+        cells: sums::of(lists.cells),
+    }
 }
 
 // The first seven bits of a sheet.
 fn trains(sheet: &[u8]) -> usize
     ensures { result ≤ 127 }
 {
-    if 0 < sheet.len() { half(sheet[0]) } else { 0 }
+    match sheet.first() {
+        Some(byte) => usize::from(byte / 2),
+        None => 0,
+    }
 }
 
-// The cells in use, where the call was accepted.
-fn rows<W: Write>(out: &mut W, sheet: &[u8], a: Answer, cells: &[u64]) -> io::Result<()> {
-    if a.number() == 0 {
-        printed::rows(out, cells, trains(sheet))?;
+// The lists in full, with the cells in use where the call was accepted.
+pub fn lists<W: Write>(out: &mut W, sheet: &[u8], answer: Answer, lists: Lists) -> io::Result<()> {
+    writeln!(out, "decisions{}", Listed(lists.decisions))?;
+    writeln!(out, "delays{}", Listed(lists.delays))?;
+    if answer.is_ok() {
+        printed::rows(out, lists.cells, trains(sheet))?;
     }
     Ok(())
-}
-
-// The lists in full.
-pub fn lists<W: Write>(
-    out: &mut W,
-    sheet: &[u8],
-    a: Answer,
-    cells: &[u64],
-    decisions: &[u8],
-    delays: &[u32],
-) -> io::Result<()> {
-    say::end(out)?;
-    say::word(out, b"decisions")?;
-    printed::bytes(out, decisions)?;
-    say::word(out, b"delays")?;
-    printed::numbers(out, delays)?;
-    rows(out, sheet, a, cells)
 }

@@ -9,7 +9,7 @@ use Prim.Native.Nat.{ℕ, ◌≤◌}
 use lib.ListN.{length, replicate}
 use Rattle.std.specs.Prelude.{if◌then◌else◌}
 use Rattle.lists.specs.Run.{padded}
-use Rattle.lists.proofs.Choice.{true_or_false, if_yes, if_no}
+use Rattle.std.proofs.lemmas.Bool.{cases_Bool, cond-true, cond-false}
 use Rattle.lists.proofs.Run.{padded_same}
 use Rattle.bits.proofs.Puts.{put_unique}
 use Rattle.terms.specs.declared.Refusal.{Refusal}
@@ -101,19 +101,19 @@ refused_for r before after right decisions delays cells =
     record {
       blanked = λ blanks. elim right [
         | inl long ↦ record {
-          decisions = decisions ∙ if_yes _ _ blanks ∙ ap (λ (n : ℕ). replicate n 2) long.decisions;
-          delays = delays ∙ if_yes _ _ blanks ∙ ap (λ (n : ℕ). replicate n 0) long.delays;
+          decisions = decisions ∙ cond-true _ _ _ blanks ∙ ap (λ (n : ℕ). replicate n 2) long.decisions;
+          delays = delays ∙ cond-true _ _ _ blanks ∙ ap (λ (n : ℕ). replicate n 0) long.delays;
           cells = cells;
         }
         | inr not ↦ absurd (true≢false (sym blanks ∙ not))
       ];
       kept = λ not.
-          buffers_one after before cells (decisions ∙ if_no _ _ not) (delays ∙ if_no _ _ not);
+          buffers_one after before cells (decisions ∙ cond-false _ _ _ not) (delays ∙ cond-false _ _ _ not);
     }
 
 -- a refusal of any kind leaves the cells
 pub refused_cells : (r : Refusal) (before after : Buffers) → RefusedFor r before after → after.cells ≡ before.cells
-refused_cells r before after left = elim (true_or_false (blanks_of r)) [
+refused_cells r before after left = elim (cases_Bool (blanks_of r)) [
   | inl blanks ↦ (left.blanked blanks).cells
   | inr keeps ↦ ap (λ (b : Buffers). b.cells) (left.kept keeps)
 ]
@@ -154,7 +154,7 @@ module _ (before after after' : Buffers) where
       )
 
   refused_for_one : (r : Refusal) → RefusedFor r before after → RefusedFor r before after' → after ≡ after'
-  refused_for_one r P Q = elim (true_or_false (blanks_of r)) [
+  refused_for_one r P Q = elim (cases_Bool (blanks_of r)) [
     | inl blanks ↦
         let p = P.blanked blanks in
         let q = Q.blanked blanks in

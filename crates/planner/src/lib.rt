@@ -21,7 +21,6 @@ use crate::settling::settle;
 use bits::put;
 use cells::sums::SUMS;
 use cells::timing::Timing;
-use lists::{fill_u8, fill_u32};
 use prepare::prepare;
 use sheet::format::Column;
 use terms::{Answer, Refusal, Train};
@@ -40,8 +39,8 @@ fn refuse(refusal: Refusal, decisions: &mut [u8], delays: &mut [u32]) -> Answer
         else delays.old)) }
 {
     if refusal.blanks() {
-        fill_u8(decisions, BLANK);
-        fill_u32(delays, 0);
+        decisions.fill(BLANK);
+        delays.fill(0);
     }
     Err(refusal)
 }

@@ -1,7 +1,7 @@
 -- Lists that hold the times and the sums of a line: one train more, one source delay replaced, and the same numbers.
 -- Assumes nothing.
 use Rattle.std.proofs.Common.{◌≡◌, refl, sym, ◌∙◌, List, inl, inr, ℕ, ◌+◌, ◌-◌, ◌≤◌, arith}
-use Rattle.lists.proofs.Order.{same_or_not}
+use Rattle.std.proofs.lemmas.Bool.{cases_eq}
 use Rattle.lists.proofs.Choice.{same_yes, same_no}
 use Rattle.line.proofs.Sums.{sum_over, over_same}
 use Rattle.sheet.specs.Numbers.{Times, Numbers}
@@ -53,7 +53,7 @@ module _ (i T : ℕ) (x : Times) (timing : Timing) (minutes s d : ℕ) (one two 
       → source_in two i ≡ d → three ≡ with_period two s T → period_in three s ≡ T → HoldsTimes i T x three
   times_next a slacked b sourced c perioded =
       record {
-        slack = λ j u v. elim (same_or_not j i) [
+        slack = λ j u v. elim (cases_eq j i) [
           | inl same ↦ cc (slack_with_period two s T j, slack_with_source one i d j, taken (omega arith))
           | inr not ↦ cc (
             slack_with_period two s T j,
@@ -62,7 +62,7 @@ module _ (i T : ℕ) (x : Times) (timing : Timing) (minutes s d : ℕ) (one two 
             H.slack j u (omega arith),
           )
         ];
-        source = λ j u v. elim (same_or_not j i) [
+        source = λ j u v. elim (cases_eq j i) [
           | inl same ↦ cc (source_with_period two s T j)
           | inr not ↦ cc (
             source_with_period two s T j,
@@ -71,7 +71,7 @@ module _ (i T : ℕ) (x : Times) (timing : Timing) (minutes s d : ℕ) (one two 
             H.source j u (omega arith),
           )
         ];
-        period = λ j u v. elim (same_or_not j i) [
+        period = λ j u v. elim (cases_eq j i) [
           | inl same ↦ cc
           | inr not ↦ cc (
             period_elsewhere two s T j (omega arith) u (λ e. omega arith),
@@ -90,7 +90,7 @@ pub timing_with_delay : (N : Numbers) (i v : ℕ) (timing after : Timing) → 1 
 timing_with_delay N i v timing after least e sourced H =
     record {
       slack = λ j a b. rw e (slack_with_source timing i v j) ∙ H.slack j a b;
-      source = λ j a b. elim (same_or_not j i) [
+      source = λ j a b. elim (cases_eq j i) [
         | inl same ↦ rw same sourced ∙ sym (same_yes v _ same)
         | inr not ↦ rw e (source_elsewhere timing i v j least a not) ∙ H.source j a b ∙ sym (same_no v _ not)
       ];

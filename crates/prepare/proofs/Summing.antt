@@ -3,7 +3,7 @@
 --                           which v was stored last; n are the passengers by pair
 -- Assumes nothing.
 use Rattle.std.proofs.Common.{◌≡◌, sym, ◌∙◌, List, inl, inr, ℕ, ◌+◌, ◌-◌, ◌*◌, ◌≤◌, ◌<◌, le_refl, arith, length, set, length-set, get_or-set_same, get_or-set_other}
-use Rattle.lists.proofs.Order.{same_or_not}
+use Rattle.std.proofs.lemmas.Bool.{cases_eq}
 use Rattle.line.specs.Sum.{sum◌from◌to◌}
 use Rattle.line.proofs.Sums.{sum_over, over_none, over_first}
 use Rattle.cells.specs.Sums.{sums_count, place_of_sum, leaving_in}
@@ -35,7 +35,7 @@ module _ (n : ℕ → ℕ → ℕ) (l : ℕ) (sums : List ℕ) where
   pub column_end : (v k : ℕ) → ColumnTo n l sums v k → k ≡ 0 → HoldsSums l n sums
   column_end v k C e =
       record {
-        leaving = λ i t a b c. elim (same_or_not t l) [
+        leaving = λ i t a b c. elim (cases_eq t l) [
           | inl same ↦ rw same (C.summed i (omega arith) (omega arith))
           | inr not ↦ C.before.leaving i t a b (omega arith)
         ];
@@ -86,7 +86,7 @@ module _ (n : ℕ → ℕ → ℕ) (l : ℕ) (sums : List ℕ) (v k p u : ℕ) (
         };
         last = rw back next_sum;
         small = omega arith;
-        summed = λ i a b. elim (same_or_not i k) [
+        summed = λ i a b. elim (cases_eq i k) [
           | inl same ↦ rw same (stored_here ∙ next_sum)
           | inr not ↦
               stored_other i l (omega arith) (omega arith) (le_refl l) (λ x y. not x) ∙ C.summed i (omega arith) b

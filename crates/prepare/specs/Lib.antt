@@ -1,3 +1,4 @@
 pub mod LineOf
 pub mod Prepared
 pub mod Preparing
+pub mod FieldsHeld

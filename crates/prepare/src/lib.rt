@@ -2,6 +2,7 @@
 // them of a sheet's numbers.
 #![tactic(auto)]
 
+mod fields;
 mod sums;
 mod times;
 
@@ -10,12 +11,14 @@ ghost use Rattle.terms.specs.Verdict.{◌and_then◌};
 ghost use Rattle.sheet.specs.Checks.{sheet_verdict};
 ghost use Rattle.prepare.specs.Prepared.{Prepared};
 
+use crate::fields::Fields;
 use crate::sums::sum_columns;
 use crate::times::fill_timing;
 use cells::sums::SUMS;
 use cells::timing::Timing;
 use reader::Reading;
 use reader::decoding::decode;
+use sheet::numbers::Columns;
 use terms::Verdict;
 
 // Takes the sheet apart and, if it is accepted, fills the times and the list of sums.
@@ -23,26 +26,10 @@ fn prepare_sheet(sheet: &[u8], timing: &mut Timing, sums: &mut [u32; SUMS]) -> R
     ensures { Prepared (sheet_verdict sheet.now) sheet.now
         timing.new sums.new result }
 {
-    let mut departures = [0u32; 64];
-    let mut driving = [0u32; 64];
-    let mut delays = [0u32; 64];
-    let mut passengers = [0u32; 2080];
-    let head = decode(
-        sheet,
-        &mut departures,
-        &mut driving,
-        &mut delays,
-        &mut passengers,
-    )?;
-    fill_timing(
-        timing,
-        head.trains,
-        head.period,
-        &departures,
-        &driving,
-        &delays,
-    );
-    sum_columns(sums, &passengers, head.trains);
+    let mut columns = Columns::zeros();
+    let head = decode(sheet, &mut columns)?;
+    fill_timing(timing, head, columns.lists());
+    sum_columns(sums, &Fields::new(head.trains, &columns.passengers));
     Ok(head)
 }
 

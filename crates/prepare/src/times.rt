@@ -1,12 +1,13 @@
 // The times of a line, from the numbers of its trains.
 ghost use Rattle.std.specs.Prelude.{◌≡◌, ℕ, ◌-◌, ◌≤◌, length};
 ghost use Rattle.lists.specs.Run.{nth};
-ghost use Rattle.sheet.specs.Numbers.{times_in};
+ghost use Rattle.sheet.specs.Held.{times_lent};
 ghost use Rattle.prepare.specs.Prepared.{HoldsTimes};
 ghost use Rattle.prepare.specs.Preparing.{SlackGiven, TrainGiven};
 
 use cells::timing::Timing;
-use terms::Train;
+use sheet::numbers::Lists;
+use terms::{Head, Train};
 
 // The slack at the station that a train leaves: its departure less that of its feeder less the
 // feeder's driving time. Train 1 has no feeder; its 0 swallows no delay.
@@ -28,43 +29,24 @@ fn slack(train: Train, departures: &[u32], driving: &[u32]) -> u32
 // The times of a train beside those of the trains before it: slack and period at the station that
 // it leaves, and its source delay.
 #[tactic(auto, using(crate::proofs::Holding::times_next, lists::proofs::Held::nth_index))]
-fn set_times(
-    timing: &mut Timing,
-    train: Train,
-    period: u32,
-    departures: &[u32],
-    driving: &[u32],
-    delays: &[u32],
-)
-    requires { TrainGiven train.0 departures.now driving.now delays.now
-        × HoldsTimes (train.0 - 1) period
-        (times_in departures.now driving.now delays.now) timing.old }
-    ensures { HoldsTimes train.0 period
-        (times_in departures.now driving.now delays.now)
-        timing.new }
+fn set_times(timing: &mut Timing, train: Train, period: u32, numbers: Lists)
+    requires { TrainGiven train.0 numbers.departures.now numbers.driving.now numbers.delays.now
+        × HoldsTimes (train.0 - 1) period (times_lent numbers) timing.old }
+    ensures { HoldsTimes train.0 period (times_lent numbers.entry) timing.new }
 {
     let station = train.leaves();
-    timing.set_slack(station, slack(train, departures, driving));
-    timing.set_source(train, delays[train.index()]);
+    timing.set_slack(station, slack(train, numbers.departures, numbers.driving));
+    timing.set_source(train, numbers.delays[train.index()]);
     timing.set_period(station, period);
 }
 
 // The times of all trains.
-#[tactic(auto, using(crate::proofs::Holding::times_none, crate::proofs::Holding::times_fewer))]
-pub fn fill_timing(
-    timing: &mut Timing,
-    m: u32,
-    period: u32,
-    departures: &[u32],
-    driving: &[u32],
-    delays: &[u32],
-)
-    requires { (i : ℕ) → 1 ≤ i → i ≤ m → TrainGiven i departures.now driving.now delays.now }
-    ensures { HoldsTimes m period
-        (times_in departures.now driving.now delays.now)
-        timing.new }
+pub fn fill_timing(timing: &mut Timing, head: Head, numbers: Lists)
+    requires { (i : ℕ) → 1 ≤ i → i ≤ head.trains
+        → TrainGiven i numbers.departures.now numbers.driving.now numbers.delays.now }
+    ensures { HoldsTimes head.trains head.period (times_lent numbers.entry) timing.new }
 {
-    for i in 1..=m {
-        set_times(timing, Train(i), period, departures, driving, delays);
+    for i in 1..=head.trains {
+        set_times(timing, Train(i), head.period, numbers);
     }
 }

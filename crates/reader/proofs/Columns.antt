@@ -8,7 +8,7 @@ use Prim.Native.Nat.{ℕ, ◌+◌, ◌-◌, ◌≤◌, ◌<◌}
 use native.Mathlib.Omega.{arith}
 use lib.Seq.{ext_get_or}
 use Rattle.lists.specs.Filled.{Filled}
-use Rattle.lists.proofs.Order.{lt_or_ge}
+use Rattle.std.proofs.lemmas.Bool.{cases_lt}
 use Rattle.sheet.specs.Format.{trains_of, period_of, passenger_column, pairs_of}
 use Rattle.sheet.specs.Numbers.{Lists, numbers_of, numbers_in}
 use Rattle.sheet.specs.Checks.{Room}
@@ -41,10 +41,9 @@ module _ (s : List ℕ) (m : ℕ) (h : HeadRead s m) where
       }
 
 -- the lists have room for what the checks of m trains read
-pub body_room : (s : List ℕ) (m : ℕ) (L : Lists) → Body s m L → Room m L
-body_room s m L h =
+pub body_room : (s : List ℕ) (m : ℕ) (L : Lists) → Body s m L → Lengths 64 2080 L → Room m L
+body_room s m L h long =
     let n = h.head.most in
-    let long = h.lengths in
     record {
       trains = record {
         least = h.head.least;
@@ -67,7 +66,7 @@ filled_one {d = d} {n = n} {new = new} {new' = new'} g h =
     ⊎_elim
     (λ (l : k < n). g.filled k l ∙ sym (h.filled k l))
     (λ (l : n ≤ k). g.others k l ∙ sym (h.others k l))
-    (lt_or_ge k n))
+    (cases_lt k n))
 
 module _ (s : List ℕ) (before after : Lists) (h : ColumnsRead s before after) where
   -- lengths are kept

@@ -17,7 +17,7 @@ use Rattle.sheet.specs.Format.{trains_of, period_of, departure_column, driving_c
 use Rattle.sheet.specs.Format.{entry, bytes_of, pairs_of}
 use Rattle.sheet.specs.Numbers.{Lists, numbers_of, numbers_in}
 use Rattle.sheet.specs.Checks.{head_verdict, sheet_verdict}
-use Rattle.sheet.specs.Accepted.{Lengths, SameNumbers}
+use Rattle.sheet.specs.Accepted.{SameNumbers}
 use Rattle.reader.specs.Reading.{reading_of}
 
 -- n places of the column lie in the sheet, and a list of `size` has room for them
@@ -35,7 +35,6 @@ pub record HeadRead (s : List ℕ) (m : ℕ) : Type 0 where
 -- behind such a head, the numbers of the sheet stand in the lists
 pub record Body (s : List ℕ) (m : ℕ) (L : Lists) : Type 0 where
   pub head : HeadRead s m
-  pub lengths : Lengths 64 2080 L
   pub numbers : SameNumbers (numbers_in m (period_of s) L) (numbers_of s)
 
 -- the fields of the sheet stand first in the lists, and the other places are as before

@@ -1,11 +1,10 @@
-// A sheet taken apart into four lent lists: its head, each field behind it once, and the checks on
+// A sheet taken apart into four lists: its head, each field behind it once, and the checks on
 // what was read. Reading, planning and reporting start from it.
 ghost use Rattle.std.specs.Prelude.{◌≡◌, length};
 ghost use Rattle.lists.specs.Filled.{Filled};
 ghost use Rattle.sheet.specs.Format.{trains_of, period_of, entry};
-ghost use Rattle.sheet.specs.Numbers.{lists};
+ghost use Rattle.sheet.specs.Held.{held};
 ghost use Rattle.sheet.specs.Checks.{head_verdict, filling_verdict, body_verdict};
-ghost use Rattle.sheet.specs.Accepted.{Lengths};
 ghost use Rattle.reader.specs.Reading.{reading_of};
 ghost use Rattle.reader.specs.Decoded.{ColumnRoom, HeadRead, ColumnsRead, Body, Decoded};
 
@@ -15,6 +14,7 @@ use sheet::checks::{check_numbers, check_ranges};
 use sheet::format::{
     Column, PERIOD_AT, PERIOD_WIDTH, TRAINS_AT, TRAINS_WIDTH, bits_of, bytes_of, pairs_of,
 };
+use sheet::numbers::Columns;
 use terms::{Head, HeadFault, Refusal, Verdict};
 
 // Under 3 bytes; m and T; shorter or longer than m demands.
@@ -27,7 +27,8 @@ fn read_head(sheet: &[u8]) -> Reading
     }
     let trains = field(sheet, TRAINS_AT, TRAINS_WIDTH);
     let period = field(sheet, PERIOD_AT, PERIOD_WIDTH);
-    check_ranges(trains, period)?;
+    let claimed = Head { trains, period };
+    check_ranges(claimed)?;
     let n = bytes_of(trains as usize);
     if sheet.len() < n {
         return Err(Refusal::OfHead(HeadFault::TooShort));
@@ -35,49 +36,39 @@ fn read_head(sheet: &[u8]) -> Reading
     if n < sheet.len() {
         return Err(Refusal::OfHead(HeadFault::TooLong));
     }
-    Ok(Head { trains, period })
+    Ok(claimed)
 }
 
 // The first `n` places of `list` become those of the column.
+#[tactic(auto, using(lists::proofs::Fill::filled_next), unfolding(sheet::specs::Format::entry))]
 fn read_column(list: &mut [u32], sheet: &[u8], column: Column, n: usize)
     requires { ColumnRoom sheet.now column n (length list.old) }
     ensures { Filled 0 (entry sheet.now column) n list.old
         list.new }
 {
-    let first = column.first;
-    let step = column.step;
-    let width = column.width;
-    let mut k = 0;
-    while k < n {
-        list[k] = field(sheet, first + step * k, width);
-        k += 1;
+    for (k, place) in list[..n].iter_mut().enumerate() {
+        *place = field(sheet, column.first + column.step * k, column.width);
     }
 }
 
 // Every field behind the head.
-fn read_columns(
-    sheet: &[u8],
-    m: usize,
-    departures: &mut [u32],
-    driving: &mut [u32],
-    delays: &mut [u32],
-    passengers: &mut [u32],
-)
-    requires { HeadRead sheet.now m
-        × Lengths 64 2080 (lists departures.old driving.old delays.old passengers.old) }
-    ensures { ColumnsRead sheet.now
-        (lists departures.old driving.old
-        delays.old passengers.old)
-        (lists departures.new driving.new
-        delays.new passengers.new) }
+fn read_columns(sheet: &[u8], m: usize, columns: &mut Columns)
+    requires { HeadRead sheet.now m }
+    ensures { ColumnsRead sheet.now (held columns.old) (held columns.new) }
 {
-    read_column(departures, sheet, Column::departures(), m);
-    read_column(driving, sheet, Column::driving(), m);
-    read_column(delays, sheet, Column::delays(), m);
-    read_column(passengers, sheet, Column::passengers(m), pairs_of(m));
+    read_column(&mut columns.departures, sheet, Column::departures(), m);
+    read_column(&mut columns.driving, sheet, Column::driving(), m);
+    read_column(&mut columns.delays, sheet, Column::delays(), m);
+    read_column(
+        &mut columns.passengers,
+        sheet,
+        Column::passengers(m),
+        pairs_of(m),
+    );
 }
 
 // The filling bits.
+#[tactic(auto, unfolding(sheet::specs::Checks::filling_verdict, sheet::specs::Format::filling_of, terms::specs::Verdict::verdict_of, lists::specs::Choice::if_below))]
 fn check_filling(sheet: &[u8], m: usize) -> Verdict
     requires { HeadRead sheet.now m }
     ensures { result ≡ filling_verdict sheet.now }
@@ -90,43 +81,21 @@ fn check_filling(sheet: &[u8], m: usize) -> Verdict
 }
 
 // The numbers of the sheet, which stand in the lists, then its filling bits.
-fn check_body(
-    sheet: &[u8],
-    m: u32,
-    departures: &[u32],
-    driving: &[u32],
-    delays: &[u32],
-    passengers: &[u32],
-) -> Verdict
-    requires { Body sheet.now m
-        (lists departures.now driving.now delays.now passengers.now) }
+fn check_body(sheet: &[u8], m: u32, columns: &Columns) -> Verdict
+    requires { Body sheet.now m (held columns.now) }
     ensures { result ≡ body_verdict sheet.now }
 {
-    check_numbers(m, departures, driving, delays, passengers)?;
+    check_numbers(m, columns.lists())?;
     check_filling(sheet, m as usize)
 }
 
 // A sheet taken apart, each field read once. A head that is refused leaves the lists as they were;
 // a body that is refused leaves the fields in them.
-pub fn decode(
-    sheet: &[u8],
-    departures: &mut [u32],
-    driving: &mut [u32],
-    delays: &mut [u32],
-    passengers: &mut [u32],
-) -> Reading
-    requires { Lengths 64 2080
-        (lists departures.old driving.old delays.old passengers.old) }
-    ensures { Decoded sheet.now
-        (lists departures.old driving.old
-        delays.old passengers.old)
-        (lists departures.new driving.new
-        delays.new passengers.new)
-        result }
+pub fn decode(sheet: &[u8], columns: &mut Columns) -> Reading
+    ensures { Decoded sheet.now (held columns.old) (held columns.new) result }
 {
     let head = read_head(sheet)?;
-    let m = head.trains;
-    read_columns(sheet, m as usize, departures, driving, delays, passengers);
-    check_body(sheet, m, departures, driving, delays, passengers)?;
+    read_columns(sheet, head.trains as usize, columns);
+    check_body(sheet, head.trains, columns)?;
     Ok(head)
 }

@@ -1,6 +1,6 @@
 // Read: a sheet into four lent lists, refused by number. Each field of the sheet is read once.
 // `read` has no `requires`: any bytes and any lists get an answer. `decoding::decode`, from which
-// planning and reporting start too, asks for lists of the right lengths.
+// planning and reporting start too, has lists of the right lengths by their type.
 #![tactic(auto)]
 
 pub mod decoding;
@@ -12,8 +12,8 @@ ghost use Rattle.reader.specs.Reading.{read_trains, read_period};
 ghost use Rattle.reader.specs.Read.{Read};
 
 use crate::decoding::decode;
-use lists::copy_u32;
 use sheet::checks::check_lengths;
+use sheet::numbers::{Columns, Lists};
 use terms::{Head, ListFault, Refusal};
 
 // What read answers, and what a sheet that is decoded or prepared answers: m and T, or why not.
@@ -51,21 +51,12 @@ fn read_sheet(
         delays.new passengers.new)
         result }
 {
-    let mut new_departures = [0u32; 64];
-    let mut new_driving = [0u32; 64];
-    let mut new_delays = [0u32; 64];
-    let mut new_passengers = [0u32; 2080];
-    let head = decode(
-        sheet,
-        &mut new_departures,
-        &mut new_driving,
-        &mut new_delays,
-        &mut new_passengers,
-    )?;
-    copy_u32(departures, &new_departures);
-    copy_u32(driving, &new_driving);
-    copy_u32(delays, &new_delays);
-    copy_u32(passengers, &new_passengers);
+    let mut columns = Columns::zeros();
+    let head = decode(sheet, &mut columns)?;
+    departures.copy_from_slice(&columns.departures);
+    driving.copy_from_slice(&columns.driving);
+    delays.copy_from_slice(&columns.delays);
+    passengers.copy_from_slice(&columns.passengers);
     Ok(head)
 }
 
@@ -84,14 +75,12 @@ pub fn read(
         delays.new passengers.new)
         result }
 {
-    check_lengths(
-        Refusal::OfList(ListFault::BufferLength),
-        64,
-        2080,
+    let lent = Lists {
         departures,
         driving,
         delays,
         passengers,
-    )?;
+    };
+    check_lengths(Refusal::OfList(ListFault::BufferLength), 64, 2080, lent)?;
     read_sheet(sheet, departures, driving, delays, passengers)
 }

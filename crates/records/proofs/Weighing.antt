@@ -1,10 +1,9 @@
 -- The sum of a list, worked from the last place down: at each place, what stands from there on is added once more,
 -- so that no place is multiplied. `Worked` is the invariant, with laws for the start, a turn and the end.
 -- Assumes nothing.
-use Rattle.std.proofs.Common.{◌≡◌, refl, ap, ◌∙◌, List, [], ◌∷◌, ℕ, suc, ◌+◌, ◌-◌, ◌≤◌, ◌<◌, arith}
-use Rattle.std.proofs.Common.{length, get_or, drop}
+use Rattle.std.proofs.Common.{◌≡◌, refl, ap, sym, ◌∙◌, List, [], ◌∷◌, ◌++◌, map, ℕ, ◌+◌, arith, length}
+use Rattle.std.proofs.Common.{append_assoc, append-nil}
 use Rattle.std.proofs.Math.Nat.{add-mul, one-mul}
-use Rattle.std.proofs.Math.Seq.{drop-cons, drop-length}
 use Rattle.records.specs.Weighed.{cut, weighed, sum_of}
 
 -- what stands at all places, without the weights
@@ -25,27 +24,33 @@ weighed_cons x xs = omega (arith, weighed_suc 1 xs)
 cut_add : (a b : ℕ) {x y : ℕ} → x ≡ cut a → y ≡ cut b → cut (x + y) ≡ cut (a + b)
 cut_add a b p q = omega arith
 
--- total and tail are the two sums of the places from k on
-pub record Worked (xs : List ℕ) (k total tail : ℕ) : Type 0 where
-  pub weight : total ≡ sum_of (drop k xs)
-  pub rest : tail ≡ cut (summed (drop k xs))
+-- total and tail are the two sums of the places behind those that are left
+pub record Worked {A : Type 0} (value : A → ℕ) (xs left : List A) (total tail : ℕ) : Type 0 where
+  pub passed : List A
+  pub parts : xs ≡ left ++ passed
+  pub weight : total ≡ sum_of (map value passed)
+  pub rest : tail ≡ cut (summed (map value passed))
 
-pub worked_none : (xs : List ℕ) → Worked xs (length xs) 0 0
-unfolding weighed summed
-worked_none xs = record { weight = rw (drop-length xs); rest = rw (drop-length xs) }
+module _ {A : Type 0} {value : A → ℕ} {xs : List A} where
+  pub worked_none : {left : List A} → left ≡ xs → Worked value xs left 0 0
+  unfolding weighed summed
+  worked_none e = record { passed = []; parts = sym e ∙ sym (append-nil _); weight = refl; rest = refl }
 
--- one place more in front
-pub worked_more : {xs : List ℕ} {k v total tail t u : ℕ} → 0 < k → k ≤ length xs → v ≡ get_or xs (k - 1) 0
-    → Worked xs k total tail → (u ≡ cut (tail + v)) × (t ≡ cut (total + u)) → Worked xs (k - 1) t u
-unfolding summed
-worked_more {xs} {k} {v} {u = u} a b e w new =
-    let back : suc (k - 1) ≡ k = omega arith in
-    let split : drop (k - 1) xs ≡ v ∷ drop k xs = drop-cons xs (k - 1) 0 (omega arith) ∙ rw (back, e) in
-    let together : u ≡ cut (summed (v ∷ drop k xs)) = omega (arith, new.0, w.rest) in
-    record {
-      weight = rw (split, weighed_cons v (drop k xs)) (new.1 ∙ cut_add (weighed 1 (drop k xs)) _ w.weight together);
-      rest = rw split together;
-    }
+  -- one place more in front
+  pub worked_more : {left before : List A} (x : A) {v total tail t u : ℕ} → left ≡ before ++ (x ∷ []) → v ≡ value x
+      → Worked value xs left total tail → (u ≡ cut (tail + v)) × (t ≡ cut (total + u)) → Worked value xs before t u
+  unfolding summed
+  worked_more {before = before} x {u = u} e held w new =
+      let behind : List ℕ = map value w.passed in
+      let together : u ≡ cut (summed (value x ∷ behind)) = omega (arith, new.0, w.rest, held) in
+      record {
+        passed = x ∷ w.passed;
+        parts = w.parts ∙ ap (λ (ys : List A). ys ++ w.passed) e ∙ append_assoc before (x ∷ []) w.passed;
+        weight = rw (weighed_cons (value x) behind) (new.1 ∙ cut_add (weighed 1 behind) _ w.weight together);
+        rest = together;
+      }
 
-pub worked_all : {xs : List ℕ} {k total tail : ℕ} → k ≤ 0 → Worked xs k total tail → total ≡ sum_of xs
-worked_all {xs} {k} a w = let none : k ≡ 0 = omega arith in w.weight ∙ ap (λ (j : ℕ). sum_of (drop j xs)) none
+  pub worked_all : {left : List A} {total tail : ℕ} → length left ≡ 0 → Worked value xs left total tail
+      → total ≡ sum_of (map value xs)
+  worked_all {left = []} e w = w.weight ∙ ap (λ (ys : List A). sum_of (map value ys)) (sym w.parts)
+  worked_all {left = y ∷ ys} e w = absurd (omega arith)

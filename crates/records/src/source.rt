@@ -1,58 +1,19 @@
 // Numbers of the input, high byte first; 0 for what the input lacks.
-ghost use Rattle.std.specs.Prelude.{◌≤◌, IfOk, OnErr};
-ghost use Rattle.std.specs.Io.KnownBytes.{Keeps};
+ghost use Rattle.std.specs.Prelude.{IfOk, MatchOption, OnErr, [], ◌∷◌};
+ghost use Rattle.std.specs.Io.KnownBytes.{Consumes, IsAtEnd, Keeps};
 
 use std::io;
 use std::io::{Read, Write};
 
-// The next byte, or 256 at the end. Where the read fails, no byte is taken.
-pub fn byte<R: Read>(from: &mut R) -> io::Result<u32>
-    ensures within { IfOk result (λ b. b ≤ 256) }
+// The next byte, or none at the end. Where the read fails, no byte is taken.
+pub fn byte<R: Read>(from: &mut R) -> io::Result<Option<u8>>
+    ensures ok { IfOk result (λ b. MatchOption b (IsAtEnd (R.remaining from.new))
+        (λ x. Consumes (R.remaining from.old) (R.remaining from.new) (x ∷ []))) }
     ensures err { OnErr result (Keeps (R.remaining from.old) (R.remaining from.new)) }
 {
     let mut read = [0u8; 1];
     let n = from.read(&mut read)?;
-    Ok(if n == 1 { wide(read[0]) } else { 256 })
-}
-
-// The byte, as a number.
-fn wide(b: u8) -> u32
-    ensures { result ≤ 255 }
-{
-    b as u32
-}
-
-// A number of two bytes.
-pub fn short<R: Read>(from: &mut R) -> io::Result<usize> {
-    let high = byte(from)? % 256;
-    let low = byte(from)? % 256;
-    Ok((high * 256 + low) as usize)
-}
-
-// A number of four bytes.
-pub fn number<R: Read>(from: &mut R) -> io::Result<u32> {
-    let first = byte(from)? % 256;
-    let second = byte(from)? % 256;
-    let third = byte(from)? % 256;
-    let fourth = byte(from)? % 256;
-    Ok(((first * 256 + second) * 256 + third) * 256 + fourth)
-}
-
-// A number of eight bytes.
-pub fn long<R: Read>(from: &mut R) -> io::Result<u64> {
-    let high = number(from)? as u64;
-    let low = number(from)? as u64;
-    Ok(high * 4294967296 + low)
-}
-
-// A list of numbers of four bytes.
-pub fn list<R: Read>(from: &mut R, numbers: &mut [u32]) -> io::Result<()> {
-    let mut k = 0;
-    while k < numbers.len() {
-        numbers[k] = number(from)?;
-        k += 1;
-    }
-    Ok(())
+    Ok(if n == 1 { Some(read[0]) } else { None })
 }
 
 // As many bytes as there is room for; where the input ends, the rest stays as it is.
@@ -63,17 +24,52 @@ pub fn load<R: Read>(from: &mut R, bytes: &mut [u8]) -> io::Result<()> {
     Ok(())
 }
 
-// One byte of a name, as it is.
-fn letter<W: Write>(out: &mut W, code: u32) -> io::Result<()> {
-    say::word(out, &[(code % 256) as u8])
+// The next N bytes.
+fn next<const N: usize, R: Read>(from: &mut R) -> io::Result<[u8; N]> {
+    let mut bytes = [0u8; N];
+    load(from, &mut bytes)?;
+    Ok(bytes)
+}
+
+// A number of two bytes.
+pub fn short<R: Read>(from: &mut R) -> io::Result<usize> {
+    Ok(u16::from_be_bytes(next(from)?).into())
+}
+
+// A number of four bytes.
+pub fn number<R: Read>(from: &mut R) -> io::Result<u32> {
+    Ok(u32::from_be_bytes(next(from)?))
+}
+
+// A number of eight bytes.
+pub fn long<R: Read>(from: &mut R) -> io::Result<u64> {
+    Ok(u64::from_be_bytes(next(from)?))
+}
+
+// As many bytes as a sheet can have here.
+pub const SHEET: usize = 4000;
+
+// A sheet: its length, cut to the room that there is, and its bytes.
+pub fn sheet<'a, R: Read>(from: &mut R, room: &'a mut [u8; SHEET]) -> io::Result<&'a mut [u8]> {
+    let length = short(from)?.min(SHEET);
+    let sheet = &mut room[..length];
+    load(from, sheet)?;
+    Ok(sheet)
+}
+
+// A list of numbers of four bytes.
+pub fn list<R: Read>(from: &mut R, numbers: &mut [u32]) -> io::Result<()> {
+    for place in numbers {
+        *place = number(from)?;
+    }
+    Ok(())
 }
 
 // A name, written as it is, and a space.
 pub fn name<R: Read, W: Write>(from: &mut R, out: &mut W) -> io::Result<()> {
-    let mut left = short(from)?;
-    while 0 < left {
-        letter(out, byte(from)?)?;
-        left -= 1;
+    for _ in 0..short(from)? {
+        let letter: [u8; 1] = next(from)?;
+        out.write_all(&letter)?;
     }
-    say::word(out, b" ")
+    out.write_all(b" ")
 }

@@ -1,8 +1,44 @@
 // What a list holds, as one number: each place, from 1, times what stands there, modulo 10^18.
 // It is worked from the last place down: the sum of what stands from a place on is added once for
 // each place.
-ghost use Rattle.std.specs.Prelude.{◌≡◌, ◌+◌, ◌<◌};
+ghost use Rattle.std.specs.Prelude.{◌≡◌, ℕ, ◌+◌, ◌<◌, map};
 ghost use Rattle.records.specs.Weighed.{cut, sum_of};
+
+// A number of a list.
+pub trait Number: Copy {
+    ghost value: { Self → ℕ };
+
+    // The number, as wide as a sum.
+    fn wide(self) -> u64
+        ensures { result ≡ value self };
+}
+
+impl Number for u8 {
+    ghost value = { λ n. n };
+
+    fn wide(self) -> u64 {
+        self.into()
+    }
+}
+
+impl Number for u32 {
+    ghost value = { λ n. n };
+
+    fn wide(self) -> u64 {
+        self.into()
+    }
+}
+
+impl Number for u64 {
+    ghost value = { λ n. n };
+
+    fn wide(self) -> u64 {
+        self
+    }
+}
+
+// What a sum is cut to.
+const CUT: u64 = 1_000_000_000_000_000_000;
 
 // The sum so far, and the sum of what stands at the places passed.
 #[derive(Drop)]
@@ -11,66 +47,27 @@ struct Sum {
     tail: u64,
 }
 
-// One place more in front.
-fn with(sum: Sum, value: u64) -> Sum
-    requires { (sum.total < 1000000000000000000) × (sum.tail < 1000000000000000000) }
-    ensures { (result.tail ≡ cut (sum.tail + value)) ×
-        (result.total ≡ cut (sum.total + result.tail)) }
-{
-    let tail = (sum.tail + value % 1000000000000000000) % 1000000000000000000;
-    let total = (sum.total + tail) % 1000000000000000000;
-    Sum { total, tail }
-}
-
-// The number, as wide as a sum.
-fn wide(n: u32) -> u64
-    ensures { result ≡ n }
-{
-    n as u64
-}
-
-// The byte, as wide as a sum.
-fn wide_byte(b: u8) -> u64
-    ensures { result ≡ b }
-{
-    b as u64
-}
-
-// The sum of a list of numbers of four bytes.
-pub fn numbers(list: &[u32]) -> u64
-    ensures { result ≡ sum_of list.now }
-{
-    let mut sum = Sum { total: 0, tail: 0 };
-    let mut k = list.len();
-    while 0 < k {
-        k -= 1;
-        sum = with(sum, wide(list[k]));
+impl Sum {
+    // One place more in front.
+    fn with(self, value: u64) -> Sum
+        requires { (self.total < CUT) × (self.tail < CUT) }
+        ensures { (result.tail ≡ cut (self.tail + value)) ×
+            (result.total ≡ cut (self.total + result.tail)) }
+    {
+        let tail = (self.tail + value % CUT) % CUT;
+        let total = (self.total + tail) % CUT;
+        Sum { total, tail }
     }
-    sum.total
 }
 
-// The sum of a list of bytes.
-pub fn bytes(list: &[u8]) -> u64
-    ensures { result ≡ sum_of list.now }
+// The sum of a list of numbers.
+#[tactic(auto, using(crate::proofs::Weighing::worked_none, crate::proofs::Weighing::worked_more, crate::proofs::Weighing::worked_all))]
+pub fn of<T: Number>(list: &[T]) -> u64
+    ensures { result ≡ sum_of (map T.value list.now) }
 {
     let mut sum = Sum { total: 0, tail: 0 };
-    let mut k = list.len();
-    while 0 < k {
-        k -= 1;
-        sum = with(sum, wide_byte(list[k]));
-    }
-    sum.total
-}
-
-// The sum of a list of numbers of eight bytes.
-pub fn longs(list: &[u64]) -> u64
-    ensures { result ≡ sum_of list.now }
-{
-    let mut sum = Sum { total: 0, tail: 0 };
-    let mut k = list.len();
-    while 0 < k {
-        k -= 1;
-        sum = with(sum, list[k]);
+    for number in list.iter().rev() {
+        sum = sum.with(number.wide());
     }
     sum.total
 }

@@ -5,7 +5,7 @@
 use Rattle.std.proofs.Common.{◌≡◌, refl, ap, sym, ◌∙◌, List, ◌++◌, inl, inr, ℕ, ◌+◌, ◌-◌, ◌*◌, ◌≤◌, ◌<◌, le_refl, le_of_eq, eq-or-lt_of_le, arith, length, get_or, set, take, drop, replicate, length-set}
 use Rattle.std.proofs.Math.ListN.{get_or-eq_default}
 use Rattle.lists.specs.Run.{nth}
-use Rattle.lists.proofs.Order.{lt_or_ge, same_or_not}
+use Rattle.std.proofs.lemmas.Bool.{cases_lt, cases_eq}
 use Rattle.lists.proofs.Splice.{splice, length_splice, splice_before, splice_in, splice_after}
 use Rattle.lists.proofs.Fill.{zeros_at}
 use Rattle.lists.proofs.Held.{nth_set, nth_set_other}
@@ -37,7 +37,7 @@ module _ (m k : ℕ) (cells row : List ℕ) (long : length cells ≡ cell_count)
 
   -- its cells, and 0 past the last column
   pub put_row : (l : ℕ) → k ≤ l → l ≤ m + 1 → table_of m put k l ≡ get_or row (l - k) 0
-  put_row l a b = elim (lt_or_ge m l) [
+  put_row l a b = elim (cases_lt m l) [
     | inl past ↦ table_past m put k l past ∙ sym (get_or-eq_default row 0 (omega arith))
     | inr in_use ↦
         table_in m put k l in_use
@@ -47,9 +47,9 @@ module _ (m k : ℕ) (cells row : List ℕ) (long : length cells ≡ cell_count)
 
   -- a place that is no cell of the row stands
   pub put_others : (p : ℕ) → ¬ (InRow m k p) → get_or put p 0 ≡ get_or cells p 0
-  put_others p n = elim (lt_or_ge p (place m k k)) [
+  put_others p n = elim (cases_lt p (place m k k)) [
     | inl before ↦ splice_before cells (place m k k) row fits p 0 before
-    | inr from ↦ elim (lt_or_ge p (place m k k + length row)) [
+    | inr from ↦ elim (cases_lt p (place m k k + length row)) [
       | inl inside ↦ absurd (n (record {
         column = k + (p - place m k k);
         run = omega arith;
@@ -136,7 +136,7 @@ worked_start B t cells diagonal long D later =
       long = refl;
       long_diagonal = long;
       ahead = D.held;
-      small = λ l a b. elim (lt_or_ge t l) [
+      small = λ l a b. elim (cases_lt t l) [
         | inl u ↦ omega (arith, D.held l u b, later l u b)
         | inr u ↦ omega (arith, D.rest l a u, zeros_at 64 (l - 1))
       ];
@@ -159,7 +159,7 @@ module _ (B : Book) (t i : ℕ) (before cells diagonal after : List ℕ) (x : �
 
   -- a later row stands
   later : (j l : ℕ) → i < j → j ≤ l → d j l ≡ c j l
-  later j l a b = elim (lt_or_ge B.trains l) [
+  later j l a b = elim (cases_lt B.trains l) [
     | inl past ↦ table_past B.trains after j l past ∙ sym (table_past B.trains cells j l past)
     | inr in_use ↦
         table_in B.trains after j l in_use
@@ -189,16 +189,16 @@ module _ (B : Book) (t i : ℕ) (before cells diagonal after : List ℕ) (x : �
         most = omega (arith, W.most);
         long = R.long ∙ W.long;
         long_diagonal = length-set diagonal at x ∙ W.long_diagonal;
-        ahead = λ l a b. elim (same_or_not l i) [
+        ahead = λ l a b. elim (cases_eq l i) [
           | inl same ↦ rw same (here ∙ R.first)
           | inr not ↦ nth_set_other diagonal at i x e pos l (omega arith) not ∙ W.ahead l (omega arith) b
               ∙ sym (later l l (omega arith) (le_refl l))
         ];
-        small = λ l a b. elim (same_or_not l i) [
+        small = λ l a b. elim (cases_eq l i) [
           | inl same ↦ rw (same, here) R.most
           | inr not ↦ rw (nth_set_other diagonal at i x e pos l a not) (W.small l a b)
         ];
-        anew = λ k l a b u v. elim (same_or_not k i) [
+        anew = λ k l a b u v. elim (cases_eq k i) [
           | inl same ↦ rw same (this_row l (omega arith) v)
           | inr not ↦ later_row k l (omega arith) b u v
         ];

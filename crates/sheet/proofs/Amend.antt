@@ -11,7 +11,7 @@ use native.Mathlib.Omega.{arith}
 use lib.Dec.{lit≤}
 use Rattle.lists.specs.Choice.{if_same}
 use Rattle.lists.proofs.Choice.{same_yes, same_no}
-use Rattle.lists.proofs.Order.{lt_or_ge}
+use Rattle.std.proofs.lemmas.Bool.{cases_lt}
 use Rattle.bits.specs.Field.{Put}
 use Rattle.bits.proofs.Puts.{put_apart}
 use Rattle.sheet.specs.Format.{trains_of, entry, bytes_of}
@@ -42,7 +42,7 @@ module _ (s t : List ℕ) (i v : ℕ) (ok : AcceptedSheet s) (least : 1 ≤ i) (
   same_delay j a b = elim (ℕ_discrete j i) [
     | yes e ↦ rw e put.holds ∙ sym (same_yes _ _ e)
     | no n ↦ put_apart put _ 11
-        (⊎_elim (λ (l : i < j). inr (omega arith)) (λ (l : j ≤ i). inl (omega arith)) (lt_or_ge i j))
+        (⊎_elim (λ (l : i < j). inr (omega arith)) (λ (l : j ≤ i). inl (omega arith)) (cases_lt i j))
         ∙ sym (same_no _ _ n)
   ]
 

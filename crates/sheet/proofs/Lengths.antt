@@ -9,7 +9,7 @@ use native.Mathlib.Nat.{mul-le-mul, mul-add, suc-mul, mul-suc, mul-one}
 use native.Mathlib.Omega.{arith}
 use lib.Dec.{lit≤}
 use lib.ListN.{length}
-use Rattle.lists.proofs.Order.{lt_or_ge}
+use Rattle.std.proofs.lemmas.Bool.{cases_lt}
 use Rattle.bits.specs.Field.{Apart, Within}
 use Rattle.sheet.specs.Format.{bits_of, bytes_of, pairs_of}
 
@@ -61,4 +61,4 @@ passengers_within s m k room most l =
 -- fields of trains i + 1 and j + 1 in two columns
 pub trains_apart : (a v b w i j : ℕ) → a + v ≤ b → b + w ≤ a + 33 → Apart (a + 33 * i) v (b + 33 * j) w
 trains_apart a v b w i j h k =
-    ⊎_elim (λ (l : j < i). inr (omega arith)) (λ (l : i ≤ j). inl (omega arith)) (lt_or_ge j i)
+    ⊎_elim (λ (l : j < i). inr (omega arith)) (λ (l : i ≤ j). inl (omega arith)) (cases_lt j i)

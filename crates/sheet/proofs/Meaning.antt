@@ -10,7 +10,7 @@ use native.Mathlib.Omega.{arith}
 use lib.ListN.{length}
 use Rattle.lists.specs.Choice.{if_below}
 use Rattle.lists.proofs.Choice.{below_no}
-use Rattle.lists.proofs.Order.{lt_or_ge}
+use Rattle.std.proofs.lemmas.Bool.{cases_lt}
 use Rattle.lists.proofs.Run.{run_same}
 use Rattle.bits.specs.Field.{field_of, Bytes}
 use Rattle.bits.proofs.Fields.{field_none, field_split}
@@ -66,7 +66,7 @@ earliest_same N M h i a b =
     (h.departure (i - 1) (omega arith) (omega arith))
     (h.driving (i - 1) (omega arith) (omega arith))))
     (λ (l : i ≤ 1). below_no _ _ l ∙ sym (below_no _ _ l))
-    (lt_or_ge 1 i)
+    (cases_lt 1 i)
 
 train_verdict_same : (N M : Numbers) → SameNumbers N M → (i : ℕ) → 1 ≤ i → i ≤ M.trains
     → train_verdict N.times i ≡ train_verdict M.times i

@@ -5,7 +5,7 @@ use mathlib.Core.Logic.{◌⊎◌, inl, inr, ⊎_elim}
 use Prim.Native.Nat.{ℕ, zero, suc, ◌+◌, ◌-◌, ◌*◌, ◌/◌, ◌≤◌, ◌<◌}
 use native.Mathlib.Nat.{not-suc-le-zero, mul-suc, suc-mul, mul-add, mul-one}
 use native.Mathlib.Omega.{arith}
-use Rattle.lists.proofs.Order.{lt_or_ge}
+use Rattle.std.proofs.lemmas.Bool.{cases_lt}
 use Rattle.sheet.specs.Format.{pairs_of}
 use Rattle.sheet.specs.Pairs.{IsPair, fields_up_to, field_of_pair}
 use Rattle.sheet.proofs.Lengths.{pairs_twice}
@@ -93,10 +93,10 @@ pairs_apart m i j i' j' p q e =
     ⊎_elim
     (λ (b : j' < j). omega (arith, reversed (inr (sym s, b))))
     (λ (b : j ≤ j'). (s, omega arith))
-    (lt_or_ge j' j))
-    (lt_or_ge j j'))
-    (lt_or_ge i' i))
-    (lt_or_ge i i')
+    (cases_lt j' j))
+    (cases_lt j j'))
+    (cases_lt i' i))
+    (cases_lt i i')
 
 -- the pair of a field
 pub record PairOf (m f : ℕ) : Type 0 where
@@ -119,7 +119,7 @@ fields_pair m (suc k) f l a b =
       field = rw e (omega arith);
     })
     (λ (c : f ≤ fields_up_to m k). fields_pair m k f (omega arith) a c)
-    (lt_or_ge (fields_up_to m k) f)
+    (cases_lt (fields_up_to m k) f)
 
 -- every field 1 to m(m+1)/2 is that of a pair
 pub field_has_pair : (m f : ℕ) → 1 ≤ f → f ≤ pairs_of m → PairOf m f

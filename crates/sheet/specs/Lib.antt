@@ -4,3 +4,4 @@ pub mod Pairs
 pub mod Checks
 pub mod Accepted
 pub mod SheetA
+pub mod Held

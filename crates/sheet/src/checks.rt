@@ -3,39 +3,31 @@
 ghost use Rattle.std.specs.Prelude.{◌≡◌, ◌≤◌, length};
 ghost use Rattle.lists.specs.Run.{nth};
 ghost use Rattle.terms.specs.Verdict.{verdict_of, first_of};
-ghost use Rattle.sheet.specs.Numbers.{lists, times_in};
+ghost use Rattle.sheet.specs.Numbers.{times_in};
+ghost use Rattle.sheet.specs.Held.{lent, times_lent};
 ghost use Rattle.sheet.specs.Checks.{lengths_verdict, ranges_verdict, earliest_of, train_checks};
 ghost use Rattle.sheet.specs.Checks.{train_verdict, passengers_verdict, numbers_verdict};
 ghost use Rattle.sheet.specs.Checks.{TrainRoom, Room};
 
 use crate::format::pairs_of;
-use terms::{HeadFault, Refusal, Train, TrainFault, Verdict};
+use crate::numbers::Lists;
+use terms::{Head, HeadFault, Refusal, Train, TrainFault, Verdict};
 
 // The lengths of four lists: `n` for each of the trains' three, `k` for the passengers'.
 #[tactic(auto, unfolding(crate::specs::Checks::lengths_verdict, terms::specs::Verdict::verdict_of, lists::specs::Choice::if_same))]
-pub fn check_lengths(
-    refusal: Refusal,
-    n: usize,
-    k: usize,
-    departures: &[u32],
-    driving: &[u32],
-    delays: &[u32],
-    passengers: &[u32],
-) -> Verdict
-    ensures { result ≡ lengths_verdict refusal n k
-        (lists departures.now driving.now
-        delays.now passengers.now) }
+pub fn check_lengths(refusal: Refusal, n: usize, k: usize, given: Lists) -> Verdict
+    ensures { result ≡ lengths_verdict refusal n k (lent given.entry) }
 {
-    if departures.len() != n {
+    if given.departures.len() != n {
         return Err(refusal);
     }
-    if driving.len() != n {
+    if given.driving.len() != n {
         return Err(refusal);
     }
-    if delays.len() != n {
+    if given.delays.len() != n {
         return Err(refusal);
     }
-    if passengers.len() != k {
+    if given.passengers.len() != k {
         return Err(refusal);
     }
     Ok(())
@@ -43,19 +35,19 @@ pub fn check_lengths(
 
 // The number of trains and the period.
 #[tactic(auto, unfolding(crate::specs::Checks::ranges_verdict, terms::specs::Verdict::verdict_of, lists::specs::Choice::if_below))]
-pub fn check_ranges(m: u32, period: u32) -> Verdict
-    ensures { result ≡ ranges_verdict m period }
+pub fn check_ranges(head: Head) -> Verdict
+    ensures { result ≡ ranges_verdict head.trains head.period }
 {
-    if m < 1 {
+    if head.trains < 1 {
         return Err(Refusal::OfHead(HeadFault::TrainCount));
     }
-    if 64 < m {
+    if 64 < head.trains {
         return Err(Refusal::OfHead(HeadFault::TrainCount));
     }
-    if period < 1 {
+    if head.period < 1 {
         return Err(Refusal::OfHead(HeadFault::Period));
     }
-    if 1440 < period {
+    if 1440 < head.period {
         return Err(Refusal::OfHead(HeadFault::Period));
     }
     Ok(())
@@ -98,28 +90,29 @@ fn check_times(train: Train, departure: u64, driving: u32, delay: u32, earliest:
 }
 
 // One train of the lists.
-fn check_train(train: Train, departures: &[u32], driving: &[u32], delays: &[u32]) -> Verdict
-    requires { TrainRoom train.0 departures.now driving.now delays.now }
-    ensures { result ≡ train_verdict
-        (times_in departures.now driving.now delays.now)
-        train.0 }
+fn check_train(train: Train, given: Lists) -> Verdict
+    requires { TrainRoom train.0 given.departures.now given.driving.now given.delays.now }
+    ensures { result ≡ train_verdict (times_lent given.entry) train.0 }
 {
     let k = train.index();
-    let departure = u64::from(departures[k]);
-    let earliest = earliest(train, departures, driving);
-    check_times(train, departure, driving[k], delays[k], earliest)
+    let departure = u64::from(given.departures[k]);
+    let earliest = earliest(train, given.departures, given.driving);
+    check_times(
+        train,
+        departure,
+        given.driving[k],
+        given.delays[k],
+        earliest,
+    )
 }
 
 // Trains 1 to `m`, one after the other.
-fn check_trains(m: u32, departures: &[u32], driving: &[u32], delays: &[u32]) -> Verdict
-    requires { TrainRoom m departures.now driving.now delays.now }
-    ensures { result ≡ first_of
-        (train_verdict
-        (times_in departures.now driving.now delays.now))
-        1 m }
+fn check_trains(m: u32, given: Lists) -> Verdict
+    requires { TrainRoom m given.departures.now given.driving.now given.delays.now }
+    ensures { result ≡ first_of (train_verdict (times_lent given.entry)) 1 m }
 {
     for i in 1..=m {
-        check_train(Train(i), departures, driving, delays)?;
+        check_train(Train(i), given)?;
     }
     Ok(())
 }
@@ -129,27 +122,20 @@ fn check_passengers(n: usize, passengers: &[u32]) -> Verdict
     requires { (n ≤ 2080) × (n ≤ length passengers.now) }
     ensures { result ≡ first_of (passengers_verdict (nth passengers.now)) 1 n }
 {
-    for f in 1..=n {
-        if 10000 < passengers[f - 1] {
-            return Err(Refusal::Passengers(f as u32));
+    for (k, count) in passengers[..n].iter().enumerate() {
+        if 10000 < *count {
+            return Err(Refusal::Passengers(k as u32 + 1));
         }
     }
     Ok(())
 }
 
 // All trains, then all passenger fields.
-pub fn check_numbers(
-    m: u32,
-    departures: &[u32],
-    driving: &[u32],
-    delays: &[u32],
-    passengers: &[u32],
-) -> Verdict
-    requires { Room m (lists departures.now driving.now delays.now passengers.now) }
-    ensures { result ≡ numbers_verdict m
-        (times_in departures.now driving.now delays.now)
-        (nth passengers.now) }
+pub fn check_numbers(m: u32, given: Lists) -> Verdict
+    requires { Room m (lent given) }
+    ensures { result ≡ numbers_verdict m (times_lent given.entry)
+        (nth given.entry.passengers.now) }
 {
-    check_trains(m, departures, driving, delays)?;
-    check_passengers(pairs_of(m as usize), passengers)
+    check_trains(m, given)?;
+    check_passengers(pairs_of(m as usize), given.passengers)
 }

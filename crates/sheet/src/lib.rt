@@ -1,5 +1,7 @@
-// The sheet: where its fields stand, and the checks that read, write, plan and report share.
+// The sheet: where its fields stand, the lists that hold its numbers, and the checks that read,
+// write, plan and report share.
 #![tactic(auto)]
 
 pub mod checks;
 pub mod format;
+pub mod numbers;

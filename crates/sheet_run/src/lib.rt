@@ -3,47 +3,41 @@
 // their form.
 #![tactic(auto)]
 
+mod lent;
 mod reads;
 mod writes;
 
-use records::source;
-use records::source::byte;
+use records::{Kind, source};
 use std::io;
 use std::io::{Read, Write};
 
-// The letter a record begins with.
-const NAME: u32 = 78;
-
-const READ: u32 = 82;
-
-const WRITE: u32 = 87;
-
-// One record of a kind; false where there is none.
-fn record<R: Read, W: Write>(from: &mut R, out: &mut W, kind: u32) -> io::Result<bool> {
-    if kind == NAME {
-        source::name(from, out)?;
-        return Ok(true);
-    }
-    if kind == READ {
-        reads::record(from, out)?;
-        return Ok(true);
-    }
-    if kind == WRITE {
-        writes::record(from, out)?;
-        return Ok(true);
-    }
-    Ok(false)
+// What a record asks for.
+#[derive(Clone, Copy)]
+enum Asked {
+    Name,
+    Read,
+    Write,
 }
 
-// Up to 100,000 records.
-pub fn run<R: Read, W: Write>(from: &mut R, out: &mut W) -> io::Result<()> {
-    let mut left: u32 = 100000;
-    while 0 < left {
-        let kind = byte(from)?;
-        if !record(from, out, kind)? {
-            return Ok(());
+impl Kind for Asked {
+    fn of_letter(letter: u8) -> Option<Asked> {
+        match letter {
+            b'N' => Some(Asked::Name),
+            b'R' => Some(Asked::Read),
+            b'W' => Some(Asked::Write),
+            _ => None,
         }
-        left -= 1;
     }
-    Ok(())
+
+    fn run<R: Read, W: Write>(self, from: &mut R, out: &mut W) -> io::Result<()> {
+        match self {
+            Asked::Name => source::name(from, out),
+            Asked::Read => reads::record(from, out),
+            Asked::Write => writes::record(from, out),
+        }
+    }
+}
+
+pub fn run<R: Read, W: Write>(from: &mut R, out: &mut W) -> io::Result<()> {
+    records::run::<Asked, _, _>(from, out)
 }

@@ -2,7 +2,6 @@
 -- says.
 -- Assumes nothing.
 use Rattle.std.proofs.Common.{◌≡◌, refl, ap, ℕ, Ok, Err}
-use Rattle.lists.proofs.Order.{zero_not_one}
 use Rattle.terms.specs.declared.Refusal.{Refusal}
 use Rattle.terms.specs.Verdict.{Verdict, Fine, if_fine, number_in, place_in}
 use Rattle.terms.specs.Answer.{answer_number, answer_place, answer_carries, answer_of}
@@ -15,16 +14,16 @@ module _ {A : Type 0} where
   -- a verdict that is fine answers what it brings
   pub answer_accepted : (v : Verdict) {x y : A} → Fine ≡ v → x ≡ y → Ok x ≡ answer_of v y
   answer_accepted (Ok u) e p = ap (λ (z : A). Ok z) p
-  answer_accepted (Err r) e p = zero_not_one (cc)
+  answer_accepted (Err r) e p = cc
 
   -- an answer that accepts tells that the verdict is fine
   pub accepted_answer : (v : Verdict) (y : A) {x : A} → Ok x ≡ answer_of v y → (v ≡ Fine) × (x ≡ y)
   accepted_answer (Ok u) y e = (refl, cc)
-  accepted_answer (Err r) y e = zero_not_one (cc)
+  accepted_answer (Err r) y e = cc
 
   -- and one that refuses tells for what
   pub refused_answer : (v : Verdict) (y : A) {r : Refusal} → Err r ≡ answer_of v y → v ≡ Err r
-  refused_answer (Ok u) y e = zero_not_one (cc)
+  refused_answer (Ok u) y e = cc
   refused_answer (Err r) y e = cc
 
   pub answer_number_lem : (v : Verdict) (x : A) → answer_number (answer_of v x) ≡ number_in v

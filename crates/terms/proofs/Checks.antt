@@ -1,5 +1,5 @@
 -- Laws of checks in their order, as a function that answers a verdict uses them: a test that refused is the answer
--- (`hit`, `unlike`), a test that passed leaves the rest (`miss`, `alike`); and a list of checks is fine exactly when
+-- (`hit`, `unlike`), a test that passed leaves the rest (`miss`); and a list of checks is fine exactly when
 -- each of them passes.
 --   Passes c, refusal_of c   the check c finds nothing; what it refuses for
 --   Passed checks            each of them passes
@@ -8,13 +8,12 @@ use mathlib.Core.Path.{◌≡◌, refl, sym, ap, subst, ◌∙◌}
 use mathlib.Core.List.{List, [], ◌∷◌}
 use mathlib.Core.Logic.{◌⊎◌, inl, inr, ⊎_elim}
 use Prim.Native.Nat.{ℕ, zero, suc, ◌+◌, ◌-◌, ◌≤◌, ◌<◌}
-use borrow.Author.Rules.{rules}
 use native.Mathlib.Nat.{eq-or-lt_of_le}
 use native.Mathlib.Decide.{ℕ_discrete}
 use native.Mathlib.Omega.{arith}
 use Rattle.lists.specs.Run.{run_of}
 use Rattle.lists.proofs.Choice.{below_yes, below_no, same_yes, same_no}
-use Rattle.lists.proofs.Order.{lt_or_ge, zero_not_one}
+use Rattle.std.proofs.lemmas.Bool.{cases_lt}
 use Rattle.lists.proofs.Run.{run_next, run_none}
 use Rattle.terms.specs.declared.Refusal.{Refusal}
 use Rattle.std.specs.Prelude.{Ok, Err}
@@ -25,7 +24,7 @@ use Rattle.terms.specs.Verdict.{if_fine}
 -- ---- a check and those that follow
 
 pub refused_not_fine : {A : Type 0} {r : Refusal} → Err r ≡ Fine → A
-refused_not_fine e = zero_not_one (cc)
+refused_not_fine e = cc
 
 pub fine_or_refused : (v : Verdict) → (v ≡ Fine) ⊎ ((r : Refusal) × (v ≡ Err r))
 fine_or_refused (Ok u) = inl refl
@@ -76,7 +75,7 @@ pub check_or_rest : (c : Check) (rest : List Check)
     → ((Passes c → ⊥) × (verdict_of (c ∷ rest) ≡ Err (refusal_of c)))
     ⊎ (Passes c × (verdict_of (c ∷ rest) ≡ verdict_of rest))
 unfolding verdict_of
-check_or_rest (refuse r when a below b) rest = elim (lt_or_ge a b) [
+check_or_rest (refuse r when a below b) rest = elim (cases_lt a b) [
   | inl l ↦ inl ((λ p. omega arith), below_yes _ _ l)
   | inr l ↦ inr (l, below_no _ _ l)
 ]
@@ -122,18 +121,9 @@ pub unlike : (r : Refusal) (a b : ℕ) (rest : List Check) → (a ≡ b → ⊥)
 unfolding verdict_of
 unlike r a b rest n = sym (same_no _ _ n)
 
-pub alike : (r : Refusal) (a b : ℕ) (rest : List Check) (w : Verdict) → a ≡ b → w ≡ verdict_of rest
-    → w ≡ verdict_of ((refuse r unless a is b) ∷ rest)
-unfolding verdict_of
-alike r a b rest w q e = e ∙ sym (same_yes _ _ q)
-
 pub no_more : Fine ≡ verdict_of []
 unfolding verdict_of
 no_more = refl
-
--- `search chain depth n` answers a function's returns, n being one more than its tests: those that led there say which
--- check is the first to refuse
-pub ruleset chain = (rules, hit, miss, unlike, alike, no_more)
 
 -- ---- a loop that looks for the first refusal of n checks, from check a on
 

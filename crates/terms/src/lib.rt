@@ -27,12 +27,12 @@ impl Train {
         Station(self.0 + 1)
     }
 
-    // Where the train stands in a list that begins with train 1.
+    // Where the train stands in a list that begins with train 1: where its station stands.
     pub fn index(self) -> usize
         requires { 1 ≤ self.0 }
         ensures { result ≡ self.0 - 1 }
     {
-        self.0 as usize - 1
+        self.leaves().index()
     }
 }
 

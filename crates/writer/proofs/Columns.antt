@@ -1,13 +1,7 @@
 -- Laws of a column that is put place by place.
 -- Assumes nothing.
-use mathlib.Core.Path.{◌≡◌, refl, subst, ◌∙◌}
-use mathlib.Core.List.{List}
-use mathlib.Core.Logic.{inl, ⊎_elim}
-use Prim.Native.Nat.{ℕ, ◌+◌, ◌*◌, ◌≤◌, ◌<◌}
-use native.Mathlib.Nat.{not-suc-le-zero, mul-le-mul_left, mul-suc}
-use native.Mathlib.Omega.{arith}
-use lib.ListN.{get_or}
-use Rattle.lists.proofs.Order.{lt_or_ge}
+use Rattle.std.proofs.Common.{below_more, ◌≡◌, refl, ◌∙◌, List, inl, ℕ, ◌+◌, ◌*◌, ◌≤◌, ◌<◌, not-suc-le-zero}
+use Rattle.std.proofs.Common.{mul-le-mul_left, mul-suc, arith, get_or}
 use Rattle.bits.specs.Field.{Put}
 use Rattle.bits.proofs.Puts.{put_apart}
 use Rattle.sheet.specs.declared.format.Column.{Column}
@@ -22,18 +16,13 @@ places_apart : (c : Column) (k n : ℕ) → c.width ≤ c.step → k < n
     → c.first + c.step * k + c.width ≤ c.first + c.step * n
 places_apart c k n s l = omega (arith, mul-le-mul_left c.step l, mul-suc c.step k)
 
-pub column_next : {s t u : List ℕ} {c : Column} {n : ℕ} {l : List ℕ} → ColumnPut s c n l t → c.width ≤ c.step
-    → Put t (c.first + c.step * n) c.width (get_or l n 0) u → ColumnPut s c (n + 1) l u
+pub column_next : {s t u : List ℕ} {c : Column} {n v : ℕ} {l : List ℕ} → ColumnPut s c n l t → c.width ≤ c.step
+    → v ≡ get_or l n 0 → Put t (c.first + c.step * n) c.width v u → ColumnPut s c (n + 1) l u
 unfolding entry
-column_next {s} {t} {u} {c} {n} {l} g spaced h =
+column_next {s} {t} {u} {c} {n} {v} {l} g spaced same h =
     record {
       long = h.long ∙ g.long;
-      holds = λ k b.
-          ⊎_elim
-          (λ (a : k < n). put_apart h _ _ (inl (places_apart c k n spaced a)) ∙ g.holds k a)
-          (λ (a : n ≤ k).
-          let e : n ≡ k = omega arith in
-          subst (λ (j : ℕ). entry u c j ≡ get_or l j 0) e h.holds)
-          (lt_or_ge k n);
+      holds = below_more _ _ (λ k a. put_apart h _ _ (inl (places_apart c k n spaced a)) ∙ g.holds k a)
+          (h.holds ∙ same);
       others = λ a w o. put_apart h a w (o n (omega arith)) ∙ g.others a w (λ k b. o k (omega arith));
     }

@@ -5,81 +5,37 @@
 mod putting;
 
 ghost use Rattle.std.specs.Prelude.{◌≡◌};
-ghost use Rattle.sheet.specs.Numbers.{lists};
+ghost use Rattle.sheet.specs.Held.{lent};
 ghost use Rattle.writer.specs.Write.{given, write_verdict, Write};
 
 use crate::putting::put_sheet;
 use sheet::checks::{check_lengths, check_numbers, check_ranges};
 use sheet::format::{bytes_of, pairs_of};
-use terms::{Answer, ListFault, Refusal, Verdict};
+use sheet::numbers::Lists;
+use terms::{Answer, Head, ListFault, Refusal, Verdict};
 
 // All checks of write, in their order; `room` is the length of the output.
-fn check_write(
-    room: usize,
-    m: u32,
-    period: u32,
-    departures: &[u32],
-    driving: &[u32],
-    delays: &[u32],
-    passengers: &[u32],
-) -> Verdict
+fn check_write(room: usize, head: Head, numbers: Lists) -> Verdict
     ensures { result ≡ write_verdict room
-        (given m period
-        (lists departures.now driving.now
-        delays.now passengers.now)) }
+        (given head.trains head.period (lent numbers.entry)) }
 {
     if room != 3907 {
         return Err(Refusal::OfList(ListFault::BufferLength));
     }
-    check_ranges(m, period)?;
-    let n = m as usize;
+    check_ranges(head)?;
+    let n = head.trains as usize;
     let pairs = pairs_of(n);
-    check_lengths(
-        Refusal::OfList(ListFault::ListLength),
-        n,
-        pairs,
-        departures,
-        driving,
-        delays,
-        passengers,
-    )?;
-    check_numbers(m, departures, driving, delays, passengers)
+    check_lengths(Refusal::OfList(ListFault::ListLength), n, pairs, numbers)?;
+    check_numbers(head.trains, numbers)
 }
 
 // Writes the sheet of m, T and the four lists into the first bytes of `sheet`.
-pub fn write(
-    m: u32,
-    period: u32,
-    departures: &[u32],
-    driving: &[u32],
-    delays: &[u32],
-    passengers: &[u32],
-    sheet: &mut [u8],
-) -> Answer
-    ensures { Write
-        (given m period
-        (lists departures.now driving.now
-        delays.now passengers.now))
+pub fn write(head: Head, numbers: Lists, sheet: &mut [u8]) -> Answer
+    ensures { Write (given head.trains head.period (lent numbers.entry))
         sheet.old sheet.new result }
 {
-    check_write(
-        sheet.len(),
-        m,
-        period,
-        departures,
-        driving,
-        delays,
-        passengers,
-    )?;
-    let n = bytes_of(m as usize);
-    put_sheet(
-        &mut sheet[..n],
-        m,
-        period,
-        departures,
-        driving,
-        delays,
-        passengers,
-    );
+    check_write(sheet.len(), head, numbers)?;
+    let n = bytes_of(head.trains as usize);
+    put_sheet(&mut sheet[..n], head, numbers);
     Ok(n as u64)
 }

@@ -1,7 +1,7 @@
 // The sheet put together: m and T, column by column, zeros behind the last field.
 ghost use Rattle.std.specs.Prelude.{◌≡◌, ◌≤◌, length};
 ghost use Rattle.sheet.specs.Format.{bytes_of};
-ghost use Rattle.sheet.specs.Numbers.{lists};
+ghost use Rattle.sheet.specs.Held.{lent};
 ghost use Rattle.sheet.specs.Accepted.{SheetOf};
 ghost use Rattle.writer.specs.Write.{given, numbers_given};
 ghost use Rattle.writer.specs.Putting.{PutRoom, ColumnPut, HeadRoom, HeadPut, TimesRoom};
@@ -9,6 +9,8 @@ ghost use Rattle.writer.specs.Putting.{TimesPut, FillingPut, Writable};
 
 use bits::put;
 use sheet::format::{Column, PERIOD_AT, PERIOD_WIDTH, TRAINS_AT, TRAINS_WIDTH, bits_of};
+use sheet::numbers::Lists;
+use terms::Head;
 
 // The first `n` places of the column become those of `list`.
 fn put_column(sheet: &mut [u8], column: Column, n: usize, list: &[u32])
@@ -16,35 +18,30 @@ fn put_column(sheet: &mut [u8], column: Column, n: usize, list: &[u32])
     ensures { ColumnPut sheet.old column n list.now
         sheet.new }
 {
-    let first = column.first;
-    let step = column.step;
-    let width = column.width;
-    let mut k = 0;
-    while k < n {
-        put(sheet, first + step * k, width, list[k]);
-        k += 1;
+    for (k, number) in list[..n].iter().enumerate() {
+        put(sheet, column.first + column.step * k, column.width, *number);
     }
 }
 
 // m and T.
-fn put_head(sheet: &mut [u8], m: u32, period: u32)
-    requires { HeadRoom sheet.old m period }
-    ensures { HeadPut sheet.old m period sheet.new }
+fn put_head(sheet: &mut [u8], head: Head)
+    requires { HeadRoom sheet.old head.trains head.period }
+    ensures { HeadPut sheet.old head.trains head.period sheet.new }
 {
-    put(sheet, TRAINS_AT, TRAINS_WIDTH, m);
-    put(sheet, PERIOD_AT, PERIOD_WIDTH, period);
+    put(sheet, TRAINS_AT, TRAINS_WIDTH, head.trains);
+    put(sheet, PERIOD_AT, PERIOD_WIDTH, head.period);
 }
 
 // The times of trains 1 to `m`, column by column.
-fn put_times(sheet: &mut [u8], m: u32, departures: &[u32], driving: &[u32], delays: &[u32])
-    requires { TimesRoom sheet.old m departures.now driving.now delays.now }
-    ensures { TimesPut sheet.old m departures.now
-        driving.now delays.now sheet.new }
+fn put_times(sheet: &mut [u8], m: u32, numbers: Lists)
+    requires { TimesRoom sheet.old m numbers.departures.now numbers.driving.now numbers.delays.now }
+    ensures { TimesPut sheet.old m numbers.entry.departures.now
+        numbers.entry.driving.now numbers.entry.delays.now sheet.new }
 {
     let n = m as usize;
-    put_column(sheet, Column::departures(), n, departures);
-    put_column(sheet, Column::driving(), n, driving);
-    put_column(sheet, Column::delays(), n, delays);
+    put_column(sheet, Column::departures(), n, numbers.departures);
+    put_column(sheet, Column::driving(), n, numbers.driving);
+    put_column(sheet, Column::delays(), n, numbers.delays);
 }
 
 // Zeros behind the last field.
@@ -57,31 +54,17 @@ fn put_filling(sheet: &mut [u8], m: u32)
 }
 
 // The whole sheet into as many bytes as it has.
-pub fn put_sheet(
-    sheet: &mut [u8],
-    m: u32,
-    period: u32,
-    departures: &[u32],
-    driving: &[u32],
-    delays: &[u32],
-    passengers: &[u32],
-)
-    requires { Writable
-        (given m period (lists departures.now driving.now delays.now passengers.now))
-        sheet.old }
-    ensures { SheetOf
-        (numbers_given (given m period
-        (lists departures.now driving.now
-        delays.now passengers.now)))
-        sheet.new }
+pub fn put_sheet(sheet: &mut [u8], head: Head, numbers: Lists)
+    requires { Writable (given head.trains head.period (lent numbers)) sheet.old }
+    ensures { SheetOf (numbers_given (given head.trains head.period (lent numbers.entry))) sheet.new }
 {
-    put_head(sheet, m, period);
-    put_times(sheet, m, departures, driving, delays);
+    put_head(sheet, head);
+    put_times(sheet, head.trains, numbers);
     put_column(
         sheet,
-        Column::passengers(m as usize),
-        passengers.len(),
-        passengers,
+        Column::passengers(head.trains as usize),
+        numbers.passengers.len(),
+        numbers.passengers,
     );
-    put_filling(sheet, m);
+    put_filling(sheet, head.trains);
 }

@@ -1,5 +1,5 @@
--- `bits::put_bit` meets its contract: one bit of one byte is one bit of the bytes.
-use native.Mathlib.Omega.{arith}
+-- One bit of one byte is one bit of the bytes.
+use Rattle.std.proofs.Common.{arith}
 use Rattle.bits.proofs.Puts.{put_one}
 use Rattle.bits.proofs.put_bit.Goals as goal
 

@@ -1,5 +1,5 @@
 -- `read_sheet` meets its contract: a refused sheet changes nothing, an accepted one is copied.
-use Rattle.std.proofs.Common.{◌≡◌, Err, rules}
+use Rattle.std.proofs.Common.{◌≡◌, rules}
 use Rattle.sheet.specs.Numbers.{lists}
 use Rattle.reader.proofs.Stored.{read_of_refused, read_of_accepted}
 use Rattle.reader.proofs.read_sheet.Goals as goal
@@ -13,7 +13,10 @@ returns-in_err-head c =
 -- the sheet is accepted
 pub returns : goal.returns
 returns c =
-    rw (← c.in_ok-head.was) (read_of_accepted _ _ c.requires _ _ c.decode.ensures c.in_ok-head.was
+    let blank = c.zeros-columns.ensures in
+    let got = rw (blank.departures, blank.driving, blank.delays, blank.passengers) at c.decode.ensures in
+    rw (← c.in_ok-head.was)
+    (read_of_accepted _ _ c.requires _ _ got c.in_ok-head.was
     (λ i.
-    lists (c.copy_u32.ensures i) (c.copy_u32-2.ensures i) (c.copy_u32-3.ensures i)
-    (c.copy_u32-4.ensures i)))
+    lists (c.copy_from_slice.ensures.after i) (c.copy_from_slice-2.ensures.after i)
+    (c.copy_from_slice-3.ensures.after i) (c.copy_from_slice-4.ensures.after i)))

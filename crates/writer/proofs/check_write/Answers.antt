@@ -5,7 +5,7 @@ use Rattle.terms.specs.declared.Refusal.TheVariants.{OfList}
 use Rattle.terms.specs.Verdict.{Fine}
 use Rattle.terms.proofs.Checks.{unlike, fine_of_passed, then_stop, then_pass}
 use Rattle.sheet.specs.Format.{pairs_of}
-use Rattle.sheet.specs.Numbers.{lists}
+use Rattle.sheet.specs.Held.{lent}
 use Rattle.sheet.specs.Checks.{lengths_verdict, ranges_verdict}
 use Rattle.sheet.proofs.Facts.{lengths_of_fine, ranges_of_fine}
 use Rattle.writer.specs.Write.{write_verdict}
@@ -14,19 +14,16 @@ use Rattle.writer.proofs.check_write.Goals.{After-check_lengths, In_ok-check_ran
 
 -- m and T passed
 right_ranges : (c : In_ok-check_ranges) →
-    let start = c.args in ranges_verdict start.m start.period ≡ Fine
+    let head = c.args.head in ranges_verdict head.trains head.period ≡ Fine
 right_ranges c = sym c.check_ranges.ensures ∙ c.in_ok-check_ranges.was
 
 -- what the lengths are compared with
 lengths_are : (c : After-check_lengths) →
-    let start = c.args in
-    let given = lists start.departures.now start.driving.now start.delays.now start.passengers.now in
-    c.check_lengths.result ≡ lengths_verdict (OfList ListLength) start.m (pairs_of start.m) given
+    let m = c.args.head.trains in
+    c.check_lengths.result ≡ lengths_verdict (OfList ListLength) m (pairs_of m) (lent c.args.numbers)
 lengths_are c =
-    let start = c.args in
-    let given = lists start.departures.now start.driving.now start.delays.now start.passengers.now in
     c.check_lengths.ensures
-    ∙ ap (λ (k : ℕ). lengths_verdict (OfList ListLength) start.m k given) c.pairs_of-pairs.ensures
+    ∙ ap (λ (k : ℕ). lengths_verdict (OfList ListLength) c.args.head.trains k (lent c.args.numbers)) c.pairs_of-pairs.ensures
 
 -- the output buffer has another length
 pub returns-then-room-ne3907 : goal.returns-then-room-ne3907

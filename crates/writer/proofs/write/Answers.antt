@@ -5,7 +5,7 @@ use Rattle.std.proofs.Common.{arith, rules, Err}
 use lib.ListN.{length}
 use lib.Seq.{length-take-le}
 use Rattle.terms.specs.Verdict.{Fine}
-use Rattle.sheet.specs.Numbers.{lists}
+use Rattle.sheet.specs.Held.{lent}
 use Rattle.sheet.proofs.Lengths.{bytes_le}
 use Rattle.writer.specs.Write.{given, write_verdict}
 use Rattle.writer.proofs.Facts.{accepts_of_fine}
@@ -16,9 +16,7 @@ use Rattle.writer.proofs.write.Goals.{After-bytes_of-n, In_ok-check_write}
 -- all checks passed
 fine : (c : In_ok-check_write) →
     let a = c.args in
-    write_verdict (length a.sheet.now)
-    (given a.m a.period (lists a.departures.now a.driving.now a.delays.now a.passengers.now))
-    ≡ Fine
+    write_verdict (length a.sheet.now) (given a.head.trains a.head.period (lent a.numbers)) ≡ Fine
 fine c = sym c.check_write.ensures ∙ c.in_ok-check_write.was
 
 -- the sheet fits the buffer

@@ -13,11 +13,17 @@ use Rattle.reader.proofs.decoding.check_body.Goals.{After-check_numbers}
 numbers : (c : After-check_numbers) →
     let s = c.args.sheet.now in
     c.check_numbers.result ≡ numbers_verdict (trains_of s) (times_of s) (passengers_of s)
-numbers c = c.check_numbers.ensures ∙ verdict_same _ _ c.requires.numbers
+numbers c =
+    let lent = c.lists.ensures in
+    rw (lent.departures, lent.driving, lent.delays, lent.passengers) at c.check_numbers.ensures
+    ∙ verdict_same _ _ c.requires.numbers
 
 -- the lists have room for what m trains read
 pub check_numbers-requires : goal.check_numbers-requires
-check_numbers-requires c = body_room _ _ _ c.requires
+check_numbers-requires c =
+    let lent = c.lists.ensures in
+    rw (lent.departures, lent.driving, lent.delays, lent.passengers)
+    (body_room _ _ _ c.requires (rw (lent.departures, lent.driving, lent.delays, lent.passengers) at lent.long))
 
 -- the numbers are refused
 pub returns-in_err-check_numbers : goal.returns-in_err-check_numbers

@@ -1,9 +1,5 @@
 -- `check_filling` meets its contract: the filling is at most seven bits of the last byte.
-use mathlib.Core.Path.{ap, ◌∙◌}
-use native.Mathlib.Omega.{arith}
-use Rattle.terms.proofs.Checks.{hit, miss, no_more}
-use Rattle.sheet.specs.Format.{bits_of}
-use Rattle.sheet.specs.Checks.{filling_verdict}
+use Rattle.std.proofs.Common.{arith}
 use Rattle.sheet.proofs.Lengths.{bits_le, bytes_bits}
 use Rattle.reader.proofs.decoding.check_filling.Goals as goal
 
@@ -24,16 +20,3 @@ pub field-requires : goal.field-requires
 field-requires c =
     let b = bytes_bits c.args.m in
     omega (arith, bits_le c.args.m c.requires.most, c.requires.long, c.bits_of-n.ensures)
-
--- a filling bit is 1
-pub returns-then-field-gt0 : goal.returns-then-field-gt0
-unfolding filling_verdict
-returns-then-field-gt0 c =
-    rw (← c.bits_of-n.ensures ∙ ap bits_of c.requires.trains) (hit _ _ _ _ (omega arith))
-
--- none is
-pub returns : goal.returns
-unfolding filling_verdict
-returns c =
-    rw (← c.bits_of-n.ensures ∙ ap bits_of c.requires.trains)
-    (miss _ _ _ _ _ (omega arith) no_more)

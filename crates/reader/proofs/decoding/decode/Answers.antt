@@ -5,7 +5,7 @@ use Rattle.sheet.specs.Format.{trains_of, period_of}
 use Rattle.sheet.specs.Checks.{head_verdict}
 use Rattle.terms.proofs.Answers.{answer_refused}
 use Rattle.reader.proofs.ReadingOf.{reading_accepted, accepted_reading}
-use Rattle.reader.proofs.Columns.{columns_lengths, columns_numbers}
+use Rattle.reader.proofs.Columns.{columns_numbers}
 use Rattle.reader.proofs.Decoded.{decoded_head_refused, decoded_body, head_of_fine}
 use Rattle.reader.proofs.decoding.decode.Goals as goal
 use Rattle.reader.proofs.decoding.decode.Goals.{In_ok-head}
@@ -27,7 +27,7 @@ returns-in_err-head c =
 pub read_columns-requires : goal.read_columns-requires
 read_columns-requires c =
     let told = passed (goal.at.read_columns-requires c).In_ok-head in
-    (head_of_fine _ _ told.0 told.1, c.requires)
+    head_of_fine _ _ told.0 told.1
 
 -- the columns hold the sheet's numbers
 pub check_body-requires : goal.check_body-requires
@@ -36,7 +36,6 @@ check_body-requires c =
     let read = c.read_columns.ensures in
     record {
       head = head_of_fine _ _ told.0 told.1;
-      lengths = columns_lengths _ _ _ read c.requires;
       numbers = columns_numbers _ _ _ read _ _ told.1 refl;
     }
 

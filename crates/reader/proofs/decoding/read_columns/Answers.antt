@@ -1,8 +1,5 @@
 -- `read_columns` meets its contract: every field lies within the sheet, and each list is filled with its column.
-use mathlib.Core.Path.{◌≡◌, ap, ◌∙◌}
-use mathlib.Core.List.{List}
-use Prim.Native.Nat.{ℕ}
-use lib.Dec.{lit≤}
+use Rattle.std.proofs.Common.{◌≡◌, ap, ◌∙◌, List, ℕ, lit≤, rules}
 use Rattle.lists.specs.Filled.{Filled}
 use Rattle.sheet.specs.declared.format.Column.{Column}
 use Rattle.sheet.specs.Format.{entry, passenger_column, pairs_of}
@@ -18,34 +15,34 @@ filled_column s p q h = rw (p, q) at h
 pub read_column-requires : goal.read_column-requires
 read_column-requires c =
     rw c.departures.ensures
-    (train_room _ _ c.requires.0 18 12 _ (lit≤ tt) (lit≤ tt) c.requires.1.departures)
+    (train_room _ _ c.requires 18 12 _ (lit≤ tt) (lit≤ tt) (search rules))
 
 -- the driving times: 10 bits from bit 30
 pub read_column-requires-2 : goal.read_column-requires-2
 read_column-requires-2 c =
     rw c.driving.ensures
-    (train_room _ _ c.requires.0 30 10 _ (lit≤ tt) (lit≤ tt) c.requires.1.driving)
+    (train_room _ _ c.requires 30 10 _ (lit≤ tt) (lit≤ tt) (search rules))
 
 -- the delays: 11 bits from bit 40
 pub read_column-requires-3 : goal.read_column-requires-3
 read_column-requires-3 c =
     rw c.delays.ensures
-    (train_room _ _ c.requires.0 40 11 _ (lit≤ tt) (lit≤ tt) c.requires.1.delays)
+    (train_room _ _ c.requires 40 11 _ (lit≤ tt) (lit≤ tt) (search rules))
 
 pub pairs_of-requires : goal.pairs_of-requires
 pairs_of-requires c =
-    c.requires.0.most
+    c.requires.most
 
 -- the passengers: 14 bits each, behind the trains
 pub read_column-requires-4 : goal.read_column-requires-4
 read_column-requires-4 c =
     rw (c.passengers.ensures, c.pairs_of.ensures)
-    (passenger_room _ _ c.requires.0 _ c.requires.1.passengers)
+    (passenger_room _ _ c.requires _ (search rules))
 
 -- column by column, what was read is what the sheet has
 pub returns : goal.returns
 returns c =
-    let trains = c.requires.0.trains in
+    let trains = c.requires.trains in
     record {
       departures = filled_column _ trains c.departures.ensures c.read_column.ensures;
       driving = filled_column _ trains c.driving.ensures c.read_column-2.ensures;

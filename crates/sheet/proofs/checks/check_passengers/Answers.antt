@@ -1,27 +1,42 @@
 -- `checks::check_passengers` meets its contract, by the invariant that stands in Invariants.antt.
-use Rattle.std.proofs.Common.{refl, arith}
-use Rattle.terms.proofs.Checks.{search_next, search_stop, search_end, search_last, hit, miss, no_more}
+use Rattle.std.proofs.Common.{◌≡◌, refl, ap, ◌∙◌, ◌+◌, ◌<◌, ℕ, take, get_or, arith}
+use Rattle.terms.proofs.Checks.{search_first, search_next, search_stop, search_end, hit, miss, no_more}
 use Rattle.sheet.specs.Checks.{passengers_verdict}
+use Rattle.std.proofs.lemmas.List.{get_or-take, length-take-le}
+use Rattle.lists.specs.Run.{nth}
 use Rattle.sheet.proofs.checks.check_passengers.Goals as goal
+use Rattle.sheet.proofs.checks.check_passengers.Goals.{In-loop-k}
+
+-- the place is one of the list's, and what is read there stands there
+within : (c : In-loop-k) → c.loop-k.k + 1 < 1 + c.args.n
+within c = omega (arith, length-take-le c.args.n c.args.passengers.now c.requires.1)
+
+same : (c : In-loop-k) →
+    get_or (take c.args.n c.args.passengers.now) c.loop-k.k 0 ≡ nth c.args.passengers.now (c.loop-k.k + 1)
+same c =
+    get_or-take c.args.n c.args.passengers.now c.loop-k.k 0
+    (omega (arith, length-take-le c.args.n c.args.passengers.now c.requires.1))
+    ∙ ap (λ (i : ℕ). get_or c.args.passengers.now i 0) (omega arith)
+
+pub loop-k-init : goal.loop-k-init
+loop-k-init c = search_first _ _ _
 
 -- a field was refused: it is the first
-pub returns-then-passengers-f-gt10000 : goal.returns-then-passengers-f-gt10000
+pub returns-then-count-gt10000 : goal.returns-then-count-gt10000
 unfolding passengers_verdict
-returns-then-passengers-f-gt10000 c =
-    search_stop _ _ _ c.loop-f.invariant (omega arith) refl (hit _ _ _ _ (omega arith))
+returns-then-count-gt10000 c =
+    search_stop _ _ _ c.loop-k.invariant (within (goal.at.returns-then-count-gt10000 c).In-loop-k) refl
+    (hit _ _ _ _ (omega (arith, same (goal.at.returns-then-count-gt10000 c).In-loop-k)))
 
 -- it passed: the fields after it are still to be checked
-pub loop-f-preserved : goal.loop-f-preserved
+pub loop-k-preserved : goal.loop-k-preserved
 unfolding passengers_verdict
-loop-f-preserved c =
-    search_next _ _ _ c.loop-f.invariant (omega arith) refl (miss _ _ _ _ _ (omega arith) no_more)
+loop-k-preserved c =
+    search_next _ _ _ c.loop-k.invariant (within (goal.at.loop-k-preserved c).In-loop-k) refl
+    (miss _ _ _ _ _ (omega (arith, same (goal.at.loop-k-preserved c).In-loop-k)) no_more)
 
--- the last field passed
-pub returns-else-passengers-f-gt10000 : goal.returns-else-passengers-f-gt10000
-unfolding passengers_verdict
-returns-else-passengers-f-gt10000 c =
-    search_last _ _ _ c.loop-f.invariant (omega arith) refl (miss _ _ _ _ _ (omega arith) no_more)
-
--- there is no field
+-- every field passed
 pub returns : goal.returns
-returns c = search_end _ _ _ c.loop-f.invariant (omega arith)
+returns c =
+    search_end _ _ _ c.loop-k.invariant
+    (omega (arith, length-take-le c.args.n c.args.passengers.now c.requires.1))

@@ -1,6 +1,6 @@
 -- `checks::check_trains` meets its contract, by the invariant that stands in Invariants.antt.
 use Rattle.std.proofs.Common.{◌≡◌, arith, rules}
-use Rattle.terms.proofs.Checks.{search_first, search_next, search_stop, search_end, search_last}
+use Rattle.terms.proofs.Checks.{search_next, search_stop, search_last}
 use Rattle.sheet.proofs.checks.check_trains.Goals as goal
 
 -- a train was refused: it is the first

@@ -9,12 +9,12 @@ use Rattle.writer.proofs.putting.put_times.Goals.{After-put_column, After-put_co
 -- after the first column and after the second
 departures_put : (c : After-put_column) →
     let start = c.args in
-    ColumnPut start.sheet.now departure_column start.m start.departures.now c.put_column.new.sheet
+    ColumnPut start.sheet.now departure_column start.m start.numbers.departures.now c.put_column.new.sheet
 departures_put c = rw c.departures.ensures at c.put_column.ensures
 
 driving_put : (c : After-put_column-2) →
     let start = c.args in
-    ColumnPut c.put_column.new.sheet driving_column start.m start.driving.now c.put_column-2.new.sheet
+    ColumnPut c.put_column.new.sheet driving_column start.m start.numbers.driving.now c.put_column-2.new.sheet
 driving_put c = rw c.driving.ensures at c.put_column-2.ensures
 
 -- the departures
