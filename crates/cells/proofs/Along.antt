@@ -4,6 +4,7 @@
 -- Assumes nothing.
 use Rattle.std.proofs.Common.{◌≡◌, ap, sym, ◌∙◌, List, inl, inr, ℕ, ◌+◌, ◌-◌, ◌*◌, ◌≤◌, ◌<◌, le_refl, le_trans, le_of_eq, mul_comm, mul-le-mul, arith, length, length-set, get_or-set_same, get_or-set_other}
 use Rattle.std.proofs.lemmas.Bool.{cases_eq}
+use Rattle.lists.proofs.Held.{nth_index}
 use Rattle.line.specs.Line.{Running}
 use Rattle.line.specs.Cells.{Book, excess_on, arrival_on}
 use Rattle.line.specs.Ranges.{latest, everyone, limit}
@@ -153,3 +154,7 @@ module _ (m k : ℕ) (timing : Timing) (sums : List ℕ) (costs : Costs) (given 
         (C.each l run last).go,
         mul-le-mul (given.times.period l (omega arith) last) (aboard_le m sums given.leavers k l first run last),
       )
+
+-- ---- what the loop along a run rests on, beside what is answered by hand
+
+pub ruleset along = (costs_start, turn_late, nth_index)

@@ -42,3 +42,7 @@ module _ (m : ℕ) (sums : List ℕ) (given : SumsGiven m sums) (k l : ℕ) (pos
 
   pub aboard_le : aboard_in m sums k l ≤ everyone
   aboard_le = omega (arith, boarded_aboard, boarded_le)
+
+-- ---- what the loop that counts those who board rests on
+
+pub ruleset counting = (boarded_none, boarded_first, boarded_le)

@@ -88,3 +88,7 @@ pub place_of_sum_one : (k l i t : ℕ) → 1 ≤ l → l ≤ 64 → 1 ≤ t → 
     → (k - 1 ≡ i - 1) × (l ≡ t)
 unfolding place_of_sum
 place_of_sum_one k l i t a b u v e = (omega arith, omega arith)
+
+-- ---- what the function that reads a cell rests on
+
+pub ruleset reading = (place_lt, table_in, table_past)

@@ -42,7 +42,7 @@ impl<'a> Book<'a> {
     // Fills the costs along the run that begins with `first` on time. `boarded` are those who board
     // where it begins or later and leave this train or a later one: but for those who board here or
     // later, they are aboard.
-    #[tactic(auto, using(crate::proofs::Along::costs_start, crate::proofs::Along::turn_late, lists::proofs::Held::nth_index))]
+    #[tactic(auto, using(crate::proofs::Along::along))]
     pub fn costs_along(&self, costs: &mut Costs, first: Train)
         requires { (1 ≤ first.0) × (first.0 ≤ self.now.m) }
         ensures { CostsAlong (book_held self.now) first.0 costs.new }

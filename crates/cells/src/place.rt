@@ -18,7 +18,7 @@ pub fn place(m: u32, first: Train, at: Station) -> usize
 }
 
 // What that cell holds; 0 at the last station, for which none is stored.
-#[tactic(auto, using(crate::proofs::Places::place_lt, crate::proofs::Places::table_in, crate::proofs::Places::table_past))]
+#[tactic(auto, using(crate::proofs::Places::reading))]
 pub fn cell_at(cells: &[u64], m: u32, first: Train, at: Station) -> u64
     requires { (1 ≤ first.0) × (first.0 ≤ at.0) × (m ≤ 64) ×
         (length cells.now ≡ cell_count) }

@@ -31,7 +31,7 @@ pub fn leaving(sums: &[u32; SUMS], m: u32, from: Station, train: Train) -> u64
 }
 
 // Those who board at `from` or later and leave `train` or a later one.
-#[tactic(auto, using(crate::proofs::Leavers::boarded_none, crate::proofs::Leavers::boarded_first, crate::proofs::Leavers::boarded_le))]
+#[tactic(auto, using(crate::proofs::Leavers::counting))]
 fn boarded(sums: &[u32; SUMS], m: u32, from: Station, train: Train) -> u64
     requires { SumsGiven m sums.now × (1 ≤ from.0) × (from.0 ≤ train.0) ×
         (train.0 ≤ m) }

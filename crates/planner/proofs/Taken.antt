@@ -26,7 +26,8 @@ pub after_same : (w : Verdict) {v v' : Verdict} {s : List ℕ} {timing : Timing}
     → Prepared (v and_then w) s timing sums r → Prepared (v' and_then w) s timing sums r
 after_same w e h = prepared_same (ap (λ (x : Verdict). x and_then w) e) refl h
 
-module _ {checks : Verdict} {s : List ℕ} {timing : Timing} {sums : List ℕ} {r : Reading} {h : Head} (told : Prepared checks s timing sums r)
+module _ {checks : Verdict} {s : List ℕ} {timing : Timing} {sums : List ℕ}
+    {r : Reading} {h : Head} (told : Prepared checks s timing sums r)
     (answer : r ≡ Ok h) where
   passed : (checks ≡ Fine) × (h.trains ≡ trains_of s) × (h.period ≡ period_of s)
   passed = accepted_reading checks _ _ (sym answer ∙ told.answer)

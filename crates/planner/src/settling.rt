@@ -16,6 +16,7 @@ use walk::follow;
 
 // Works the rows of `last` and of the trains before it, fills decisions and delays as read off the
 // cells, and answers the first cell, which is the total.
+#[tactic(auto, using(cells::proofs::Bounded::worked_in_range))]
 pub fn settle(
     m: u32,
     last: Train,

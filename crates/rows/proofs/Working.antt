@@ -63,7 +63,8 @@ module _ (m k : ℕ) (cells row : List ℕ) (long : length cells ≡ cell_count)
 -- ---- one row
 
 module _ (m k : ℕ) (timing : Timing) (sums : List ℕ) (costs : Costs) (diagonal part cells row : List ℕ)
-    (long : length cells ≡ cell_count) (few : m ≤ 64) (pos : 1 ≤ k) (last : k ≤ m) (size : length row ≡ m + 1 - k) (A : CostsAlong (book_in m timing sums) k costs)
+    (long : length cells ≡ cell_count) (few : m ≤ 64) (pos : 1 ≤ k) (last : k ≤ m) (size : length row ≡ m + 1 - k)
+    (A : CostsAlong (book_in m timing sums) k costs)
     (F : RowFilled k costs diagonal part row) where
   abbrev book : Book
   book = book_in m timing sums

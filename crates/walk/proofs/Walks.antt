@@ -20,7 +20,7 @@ use Rattle.cells.specs.Timing.{source_in, running_in}
 use Rattle.cells.specs.Held.{book_held}
 use Rattle.cells.specs.Costs.{excess_in, CostsAlong}
 use Rattle.cells.specs.Shown.{byte_of, shown}
-use Rattle.cells.proofs.Along.{keep_le, go_le, kept_arrives}
+use Rattle.cells.proofs.Along.{keep_le, go_le, kept_arrives, kept_le}
 use Rattle.cells.proofs.Bounded.{running_in_range}
 use Rattle.walk.specs.Walked.{Walked}
 use Rattle.walk.specs.Following.{chosen_by, ChoiceGiven, StepGiven, Stepped, WalkGiven}
@@ -49,8 +49,8 @@ module _ (book : Holder) (k l : ℕ) (costs : Costs) (cells : List ℕ)
         first = step.first;
         run = run;
         last = step.last;
-        keep_most = keep_le book.m k book.timing.now book.sums.now costs book.given step.first step.along l run step.last;
-        go_most = go_le book.m k book.timing.now book.sums.now costs book.given step.first step.along l run step.last;
+        keep_most = keep_le _ _ _ _ costs book.given step.first step.along l run step.last;
+        go_most = go_le _ _ _ _ costs book.given step.first step.along l run step.last;
         long = step.long;
         range = step.range;
       }
@@ -69,8 +69,7 @@ module _ (book : Holder) (k l : ℕ) (costs : Costs) (cells : List ℕ)
       record {
         decides = e ∙ chosen;
         first = refl;
-        late = kept_arrives book.m k book.timing.now book.sums.now costs book.given step.first step.along l (omega arith)
-            step.last;
+        late = kept_arrives _ _ _ _ costs book.given step.first step.along l (omega arith) step.last;
         along = step.along;
       }
 
@@ -96,8 +95,8 @@ pub record Walking (B : Book) (c : Table) (decisions delays : List ℕ) (costs :
 
 module _ (B : Book) (c : Table) where
   -- the lists are blank; train 1 begins the first run, on time, and has nobody to wait for
-  pub walk_start : (decisions delays : List ℕ) (costs : Costs) (k late : ℕ) → decisions ≡ replicate 64 0 → delays ≡ replicate 64 0
-      → k ≡ 0 → B.trains ≤ 64 → 1 ≤ B.trains → late ≡ arrival_on B.running 1 1 → CostsAlong B 1 costs
+  pub walk_start : (decisions delays : List ℕ) (costs : Costs) (k late : ℕ) → decisions ≡ replicate 64 0
+      → delays ≡ replicate 64 0 → k ≡ 0 → B.trains ≤ 64 → 1 ≤ B.trains → late ≡ arrival_on B.running 1 1 → CostsAlong B 1 costs
       → Walking B c decisions (set delays k late) costs 1 2
   walk_start decisions delays costs k late d y at few some e A =
       let first = sym (begins_first (choice B c)) in
@@ -115,7 +114,8 @@ module _ (B : Book) (c : Table) where
         delayed = rw (y, at) (filled_next 0 _ (blank _) (omega arith) arrives);
       }
 
-  module _ (decisions delays : List ℕ) (costs : Costs) (first i : ℕ) (w : Walking B c decisions delays costs first i) where
+  module _ (decisions delays : List ℕ) (costs : Costs) (first i : ℕ)
+      (w : Walking B c decisions delays costs first i) where
     -- one station more
     module _ (d : Decision) (f x : ℕ) (after : Costs) (s : Stepped B c first i d f x after) where
       begins_at : f ≡ begins (choice B c) (w.done + 1)
@@ -187,3 +187,9 @@ module _ (book : Holder) (cells : List ℕ) where
       le_trans (le_of_eq s.late)
       (arrival_on_le book.m (running_in book.timing.now) (running_in_range book.m book.timing.now book.given.times) _ l
       last)
+
+-- ---- what a step and the walk rest on, beside what is answered by hand
+
+pub ruleset stepping = (step_chooses, stepped_keep, kept_le)
+
+pub ruleset walking = (walk_start, walk_late, walk_next, begun)

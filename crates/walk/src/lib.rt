@@ -70,7 +70,7 @@ struct Step {
 
 // The step of `train`, on the run from `first`. Where it goes, the costs are worked along the run
 // that begins with it.
-#[tactic(auto, using(crate::proofs::Walks::step_chooses, crate::proofs::Walks::stepped_keep, cells::proofs::Along::kept_le))]
+#[tactic(auto, using(crate::proofs::Walks::stepping))]
 fn decide_at(costs: &mut Costs, cells: &[u64], book: &Book, first: Train, train: Train) -> Step
     requires { StepGiven (book_held book.now) first.0 train.0 costs.old cells.now }
     ensures { Stepped (book_held book.now)
@@ -102,7 +102,7 @@ fn decide_at(costs: &mut Costs, cells: &[u64], book: &Book, first: Train, train:
 
 // At each station the lesser choice, on the run that its feeder is on. Train 1 has nobody to wait
 // for; what is after the last train is 0. `costs` is room to work in.
-#[tactic(auto, using(crate::proofs::Walks::walk_start, crate::proofs::Walks::walk_late, crate::proofs::Walks::walk_next, crate::proofs::Walks::begun))]
+#[tactic(auto, using(crate::proofs::Walks::walking))]
 pub fn follow(
     decisions: &mut [u8],
     delays: &mut [u32],

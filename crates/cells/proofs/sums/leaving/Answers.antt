@@ -8,6 +8,7 @@ pub returns : goal.returns
 returns c =
     let p = c.requires in
     let most = leaving_le _ _ p.0 _ _ p.1 p.2 p.3 in
-    let held : slice_index_or c.args.sums.now c.place_of_sum.result 0 ≡ leaving_in c.args.sums.now c.args.from.0 c.args.train.0 =
+    let sums = c.args.sums.now in
+    let held : slice_index_or sums c.place_of_sum.result 0 ≡ leaving_in sums c.args.from.0 c.args.train.0 =
     unfold leaving_in in rw c.place_of_sum.ensures.0 in
     (held, omega arith)

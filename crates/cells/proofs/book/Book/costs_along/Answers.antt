@@ -50,7 +50,8 @@ cost-go-requires c =
 -- some of those counted leave train i
 pub overflow_sub-boarded : goal.overflow_sub-boarded
 overflow_sub-boarded c =
-    let parts = turn_leaves _ _ _ _ c.args.self.now.given _ _ _ _ c.loop-i.invariant (omega arith) (omega arith) (omega arith) in
+    let parts = turn_leaves _ _ _ _ c.args.self.now.given _ _ _ _ c.loop-i.invariant (omega arith) (omega arith)
+    (omega arith) in
     omega (arith, c.leaving-leave.ensures.0, parts)
 
 pub loop-i-preserved : goal.loop-i-preserved
