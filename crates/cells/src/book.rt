@@ -5,6 +5,7 @@ ghost use Rattle.cells.specs.Book.{BookGiven};
 
 use crate::costs::{Cost, Costs};
 use crate::sums::{SUMS, boarders, leaving};
+use crate::tables::Tables;
 use crate::timing::{Timing, cost};
 use terms::Train;
 
@@ -24,12 +25,13 @@ impl<'a> Book<'a> {
     ghost use Rattle.cells.specs.Held.{book_held};
 
     // Those who board are counted from the sums.
-    pub fn new(m: u32, timing: &'a Timing, sums: &'a [u32; SUMS]) -> Book<'a>
-        requires { BookGiven m timing.now sums.now }
+    pub fn new(m: u32, tables: &'a Tables) -> Book<'a>
+        requires { BookGiven m tables.now.timing tables.now.sums }
         ensures m { result.m ≡ m }
-        ensures timing { result.timing.now ≡ timing.now }
-        ensures sums { result.sums.now ≡ sums.now }
+        ensures timing { result.timing.now ≡ tables.now.timing }
+        ensures sums { result.sums.now ≡ tables.now.sums }
     {
+        let Tables { timing, sums } = tables;
         let boarding = boarders(sums, m);
         Book {
             m,

@@ -7,4 +7,5 @@ pub mod costs;
 pub mod limits;
 pub mod place;
 pub mod sums;
+pub mod tables;
 pub mod timing;

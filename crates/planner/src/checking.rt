@@ -11,8 +11,7 @@ ghost use Rattle.planner.specs.ReportChecks.{report_checks, own_verdict};
 
 use cells::limits::check_rows_after;
 use cells::place::CELLS;
-use cells::sums::SUMS;
-use cells::timing::Timing;
+use cells::tables::Tables;
 use prepare::prepare;
 use reader::Reading;
 use terms::{ListFault, Refusal, ReportFault, Train, Verdict};
@@ -68,17 +67,16 @@ pub fn check_report(
     train: Train,
     delay: u32,
     cells: &[u64],
-    timing: &mut Timing,
-    sums: &mut [u32; SUMS],
+    tables: &mut Tables,
 ) -> Reading
     requires { earlier ≡ Fine → length cells.now ≡ cell_count }
     ensures { Prepared
         (earlier and_then sheet_verdict sheet.now
         and_then own_verdict (trains_of sheet.now) train.0 delay
         cells.now)
-        sheet.now timing.new sums.new result }
+        sheet.now tables.new.timing tables.new.sums result }
 {
-    let head = prepare(earlier, sheet, timing, sums)?;
+    let head = prepare(earlier, sheet, tables)?;
     check_own(head.trains, train, delay, cells)?;
     Ok(head)
 }

@@ -19,7 +19,7 @@ ghost use Rattle.planner.specs.Workable.{DelayRoom};
 use crate::checking::{check_buffers, check_report};
 use crate::settling::settle;
 use bits::put;
-use cells::sums::SUMS;
+use cells::tables::Tables;
 use cells::timing::Timing;
 use prepare::prepare;
 use sheet::format::Column;
@@ -55,13 +55,12 @@ pub fn plan(sheet: &[u8], cells: &mut [u64], decisions: &mut [u8], delays: &mut 
         result }
 {
     let lengths = check_buffers(cells.len(), decisions.len(), delays.len());
-    let mut timing = Timing::zeros();
-    let mut sums = [0u32; SUMS];
-    match prepare(lengths, sheet, &mut timing, &mut sums) {
+    let mut tables = Tables::zeros();
+    match prepare(lengths, sheet, &mut tables) {
         Err(refusal) => refuse(refusal, decisions, delays),
         Ok(head) => {
             let m = head.trains;
-            Ok(settle(m, Train(m), cells, decisions, delays, &timing, &sums))
+            Ok(settle(m, Train(m), cells, decisions, delays, &tables))
         }
     }
 }
@@ -106,14 +105,13 @@ pub fn report(
         result }
 {
     let lengths = check_buffers(cells.len(), decisions.len(), delays.len());
-    let mut timing = Timing::zeros();
-    let mut sums = [0u32; SUMS];
-    match check_report(lengths, sheet, train, delay, cells, &mut timing, &mut sums) {
+    let mut tables = Tables::zeros();
+    match check_report(lengths, sheet, train, delay, cells, &mut tables) {
         Err(refusal) => refuse(refusal, decisions, delays),
         Ok(head) => {
-            replace_delay(sheet, &mut timing, train, delay);
+            replace_delay(sheet, &mut tables.timing, train, delay);
             let m = head.trains;
-            Ok(settle(m, train, cells, decisions, delays, &timing, &sums))
+            Ok(settle(m, train, cells, decisions, delays, &tables))
         }
     }
 }

@@ -8,8 +8,7 @@ ghost use Rattle.planner.specs.Workable.{Workable};
 use cells::book::Book;
 use cells::costs::Costs;
 use cells::place::cell_at;
-use cells::sums::SUMS;
-use cells::timing::Timing;
+use cells::tables::Tables;
 use rows::work_rows;
 use terms::Train;
 use walk::follow;
@@ -23,17 +22,16 @@ pub fn settle(
     cells: &mut [u64],
     decisions: &mut [u8],
     delays: &mut [u32],
-    timing: &Timing,
-    sums: &[u32; SUMS],
+    tables: &Tables,
 ) -> u64
     requires { Workable m last.0 (buffers cells.old decisions.old delays.old)
-        × BookGiven m timing.now sums.now }
-    ensures { Settled (book_in m timing.now sums.now) last.0
+        × BookGiven m tables.now.timing tables.now.sums }
+    ensures { Settled (book_in m tables.now.timing tables.now.sums) last.0
         (buffers cells.old decisions.old delays.old)
         (buffers cells.new decisions.new delays.new)
         result }
 {
-    let book = Book::new(m, timing, sums);
+    let book = Book::new(m, tables);
     let mut costs = Costs::zeros();
     work_rows(cells, &mut costs, &book, last);
     follow(decisions, delays, &mut costs, cells, &book);

@@ -14,35 +14,29 @@ ghost use Rattle.prepare.specs.Prepared.{Prepared};
 use crate::fields::Fields;
 use crate::sums::sum_columns;
 use crate::times::fill_timing;
-use cells::sums::SUMS;
-use cells::timing::Timing;
+use cells::tables::Tables;
 use reader::Reading;
 use reader::decoding::decode;
 use sheet::numbers::Columns;
 use terms::Verdict;
 
-// Takes the sheet apart and, if it is accepted, fills the times and the list of sums.
-fn prepare_sheet(sheet: &[u8], timing: &mut Timing, sums: &mut [u32; SUMS]) -> Reading
+// Takes the sheet apart and, if it is accepted, fills times and sums.
+fn prepare_sheet(sheet: &[u8], tables: &mut Tables) -> Reading
     ensures { Prepared (sheet_verdict sheet.now) sheet.now
-        timing.new sums.new result }
+        tables.new.timing tables.new.sums result }
 {
     let mut columns = Columns::zeros();
     let head = decode(sheet, &mut columns)?;
-    fill_timing(timing, head, columns.lists());
-    sum_columns(sums, &Fields::new(head.trains, &columns.passengers));
+    fill_timing(&mut tables.timing, head, columns.lists());
+    sum_columns(&mut tables.sums, &Fields::new(head.trains, &columns.passengers));
     Ok(head)
 }
 
 // The same, unless an earlier check refused.
-pub fn prepare(
-    earlier: Verdict,
-    sheet: &[u8],
-    timing: &mut Timing,
-    sums: &mut [u32; SUMS],
-) -> Reading
+pub fn prepare(earlier: Verdict, sheet: &[u8], tables: &mut Tables) -> Reading
     ensures { Prepared (earlier and_then sheet_verdict sheet.now)
-        sheet.now timing.new sums.new result }
+        sheet.now tables.new.timing tables.new.sums result }
 {
     earlier?;
-    prepare_sheet(sheet, timing, sums)
+    prepare_sheet(sheet, tables)
 }
