@@ -27,7 +27,7 @@ pub fn leaving(sums: &[u32; SUMS], m: u32, from: Station, train: Train) -> u64
     ensures { (result ≡ leaving_in sums.now from.0 train.0) ×
         (result ≤ everyone) }
 {
-    sums[place_of_sum(from, train)] as u64
+    u64::from(sums[place_of_sum(from, train)])
 }
 
 // Those who board at `from` or later and leave `train` or a later one.

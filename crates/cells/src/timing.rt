@@ -36,7 +36,7 @@ impl Timing {
         requires { (1 ≤ station.0) × (station.0 ≤ 64) }
         ensures { result ≡ late - slack_in self.now station.0 }
     {
-        late.saturating_sub(self.trains[station.index()].slack as u64)
+        late.saturating_sub(u64::from(self.trains[station.index()].slack))
     }
 
     // A train's arrival delay by its departure delay.
@@ -45,7 +45,7 @@ impl Timing {
         requires { (1 ≤ train.0) × (train.0 ≤ 64) × (departs ≤ latest) }
         ensures { result ≡ departs + source_in self.now train.0 }
     {
-        departs + self.trains[train.index()].source as u64
+        departs + u64::from(self.trains[train.index()].source)
     }
 
     // The minutes that each passenger counts who misses the connection at a station.
@@ -54,7 +54,7 @@ impl Timing {
         requires { (1 ≤ station.0) × (station.0 ≤ 64) }
         ensures { result ≡ period_in self.now station.0 }
     {
-        self.trains[station.index()].period as u64
+        u64::from(self.trains[station.index()].period)
     }
 
     // The slack at a station becomes so many minutes.

@@ -11,4 +11,4 @@ returns c =
     let sums = c.args.sums.now in
     let held : slice_index_or sums c.place_of_sum.result 0 ≡ leaving_in sums c.args.from.0 c.args.train.0 =
     unfold leaving_in in rw c.place_of_sum.ensures.0 in
-    (held, omega arith)
+    rw c.from.ensures (held, omega arith)
