@@ -1,8 +1,8 @@
--- A planned sheet is accepted, so it has a head: its first field lies within it.
+-- A planned sheet is accepted, so it has a head: its first field lies within it and is a number of trains, at most 64.
 -- Assumes nothing.
-use Rattle.std.proofs.Common.{ℕ, arith, ◌≡◌, sym, ◌∙◌, List, Ok}
+use Rattle.std.proofs.Common.{ℕ, ◌≤◌, arith, ◌≡◌, sym, ◌∙◌, List, Ok}
 use Rattle.std.proofs.Math.Dec.{lit≤}
-use Rattle.bits.specs.Field.{Within}
+use Rattle.bits.specs.Field.{field_of, Within}
 use Rattle.terms.proofs.Answers.{accepted_answer}
 use Rattle.terms.specs.Answer.{Answer}
 use Rattle.sheet.specs.Format.{trains_of}
@@ -22,3 +22,6 @@ head_within s ok =
     let long = bytes_bits (trains_of s) in
     let fields = layout (trains_of s) in
     record { inside = omega (arith, ok.long, long, fields); narrow = lit≤ tt; near = lit≤ tt }
+
+pub head_trains : (s : List ℕ) → AcceptedSheet s → field_of s 0 7 ≤ 64
+head_trains s ok = ok.numbers.trains_most
