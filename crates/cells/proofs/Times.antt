@@ -70,3 +70,9 @@ module _ (timing : Timing) (i v j : ℕ) where
   pub source_with_period : source_in (with_period timing i v) j ≡ source_in timing j
   unfolding source_in
   source_with_period = stands timing i j _ (λ (x : TrainTimes). x.source) refl
+
+-- where it was replaced it stands
+pub source_here : (timing : Timing) (i v : ℕ) → 1 ≤ i → i ≤ length timing.trains → source_in (with_source timing i v) i ≡ v
+unfolding source_in
+source_here timing i v least room =
+    ap (λ (x : TrainTimes). x.source) (get_or-set_same timing.trains (i - 1) _ _ (omega arith))

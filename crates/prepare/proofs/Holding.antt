@@ -1,6 +1,6 @@
 -- What holds the times and the sums of a line: one train more, one source delay replaced, and the same numbers.
 -- Assumes nothing.
-use Rattle.std.proofs.Common.{◌≡◌, refl, sym, ◌∙◌, List, inl, inr, ℕ, ◌+◌, ◌-◌, ◌≤◌, arith}
+use Rattle.std.proofs.Common.{◌≡◌, refl, sym, ◌∙◌, List, inl, inr, ℕ, ◌+◌, ◌-◌, ◌≤◌, arith, length}
 use Rattle.std.proofs.lemmas.Bool.{cases_eq}
 use Rattle.lists.proofs.Choice.{same_yes, same_no}
 use Rattle.line.proofs.Sums.{sum_over, over_same}
@@ -9,7 +9,7 @@ use Rattle.sheet.specs.Accepted.{SameNumbers, with_delay}
 use Rattle.sheet.specs.Pairs.{passengers_of_pair}
 use Rattle.cells.specs.declared.timing.Timing.{Timing}
 use Rattle.cells.specs.Timing.{slack_in, source_in, period_in, with_slack, with_source, with_period}
-use Rattle.cells.proofs.Times.{slack_elsewhere, source_elsewhere, period_elsewhere}
+use Rattle.cells.proofs.Times.{slack_elsewhere, source_elsewhere, period_elsewhere, source_here}
 use Rattle.cells.proofs.Times.{source_with_slack, period_with_slack, slack_with_source, period_with_source}
 use Rattle.cells.proofs.Times.{slack_with_period, source_with_period}
 use Rattle.prepare.specs.Prepared.{HoldsTimes, HoldsSums, TimingOf, SumsOf}
@@ -84,10 +84,10 @@ module _ (i T : ℕ) (x : Times) (timing : Timing) (minutes s d : ℕ) (one two 
 
 -- ---- one source delay replaced
 
--- in its place
-pub timing_with_delay : (N : Numbers) (i v : ℕ) (timing after : Timing) → 1 ≤ i → after ≡ with_source timing i v
+-- in its place, where it then stands
+pub timing_after_delay : (N : Numbers) (i v : ℕ) (timing after : Timing) → 1 ≤ i → after ≡ with_source timing i v
     → source_in after i ≡ v → TimingOf N timing → TimingOf (with_delay N i v) after
-timing_with_delay N i v timing after least e sourced H =
+timing_after_delay N i v timing after least e sourced H =
     record {
       slack = λ j a b. rw e (slack_with_source timing i v j) ∙ H.slack j a b;
       source = λ j a b. elim (cases_eq j i) [
@@ -96,6 +96,11 @@ timing_with_delay N i v timing after least e sourced H =
       ];
       period = λ j a b. rw e (period_with_source timing i v j) ∙ H.period j a b;
     }
+
+pub timing_with_delay : (N : Numbers) (i v : ℕ) (timing : Timing) → 1 ≤ i → i ≤ N.trains → N.trains ≤ 64
+    → length timing.trains ≡ 64 → TimingOf N timing → TimingOf (with_delay N i v) (with_source timing i v)
+timing_with_delay N i v timing least most few long =
+    timing_after_delay N i v timing _ least refl (source_here timing i v least (omega arith))
 
 -- no sum counts a delay
 pub sums_with_delay : (N : Numbers) (i v : ℕ) (sums : List ℕ) → SumsOf N sums → SumsOf (with_delay N i v) sums

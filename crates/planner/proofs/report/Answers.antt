@@ -10,7 +10,7 @@ use Rattle.planner.specs.Report.{report_verdict}
 use Rattle.planner.proofs.Refusals.{cells_of_fine, right_or_unwritten, after_lengths_verdict}
 use Rattle.planner.proofs.Refusals.{accepted_of_report}
 use Rattle.planner.proofs.Taken.{after_same, taken_fine, taken_trains}
-use Rattle.planner.proofs.Replacing.{delay_room, replaced_given, replaced_settled}
+use Rattle.planner.proofs.Replacing.{delay_room, replaced_given, timed_settled}
 use Rattle.planner.proofs.Outcome.{outcome_accepted, outcome_refused, refused_for}
 use Rattle.planner.proofs.report.Goals as goal
 use Rattle.planner.proofs.report.Goals.{In-Ok}
@@ -82,7 +82,7 @@ returns-in-Ok c =
       outcome = outcome_accepted _ _ lent _ (sym fine)
           (record {
             sheet = c.replace_delay.ensures.sheet;
-            settled = replaced_settled _ _ _ ok.1 report.least report.most report.delay _
+            settled = timed_settled _ _ _ ok.1 report.least report.most report.delay _
                 c.replace_delay.ensures.sheet _ _ _ _ c.replace_delay.ensures.times c.replace_delay.ensures.here
                 (taken_trains checked answer) (checked.times fine) (checked.leavers fine) lent _ _ c.settle.ensures;
           });
