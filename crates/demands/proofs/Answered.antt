@@ -1,14 +1,9 @@
 -- Demand 1 of one call of an operation: what follows from an outcome of checks that begin with the lengths of the
 -- buffers, once for plan and report; and what an accepted plan and an accepted report leave.
 -- Assumes nothing.
-use mathlib.Core.Path.{◌≡◌, refl, sym, ap, subst, ◌∙◌}
-use mathlib.Core.Bool.{true}
-use mathlib.Core.List.{List}
-use mathlib.Core.Logic.{inl, inr}
-use Prim.Native.Nat.{ℕ, ◌≤◌, zero-le}
-use native.Mathlib.Nat.{le_trans, le_of_eq, le_refl}
-use native.Mathlib.Omega.{arith}
-use lib.ListN.{length, get_or, length-replicate}
+use Rattle.std.proofs.Common.{◌≡◌, refl, sym, ap, subst, ◌∙◌, true, List, inl, inr, ℕ, ◌≤◌, zero-le, le_trans, le_of_eq}
+use Rattle.std.proofs.Common.{le_refl, arith, length, get_or}
+use lib.ListN.{length-replicate}
 use Rattle.lists.proofs.Run.{padded_length}
 use Rattle.terms.specs.declared.Refusal.{Refusal}
 use Rattle.terms.specs.declared.ListFault.TheVariants.{BufferLength}

@@ -1,10 +1,7 @@
 -- Demands 1 and 2 of the operations, from their contracts alone. The decision bytes show the policy of the contract on
 -- trains 2 to m, and nothing else of a policy is ever read.
 -- Assumes nothing.
-use mathlib.Core.Path.{◌≡◌, refl, sym, ap, subst, ◌∙◌}
-use mathlib.Core.List.{List}
-use Prim.Native.Nat.{ℕ, ◌≤◌}
-use native.Mathlib.Omega.{arith}
+use Rattle.std.proofs.Common.{◌≡◌, refl, sym, ap, subst, ◌∙◌, List, ℕ, ◌≤◌, arith}
 use Rattle.lists.specs.Choice.{if_same}
 use Rattle.lists.specs.Run.{nth}
 use Rattle.lists.proofs.Choice.{below_yes}

@@ -1,13 +1,9 @@
 -- The contracts can be kept for every sheet of bytes, every report and all buffers. Where no check fails, the cells in
 -- use of the rows to be worked are those of the worked table, and the others stay; the rest is read off.
 -- Assumes nothing.
-use mathlib.Core.Path.{◌≡◌, refl, sym, ap, ap₂, ◌∙◌}
-use mathlib.Core.List.{List}
-use mathlib.Core.Logic.{◌⊎◌, inl, inr}
-use Prim.Native.Nat.{ℕ, ◌+◌, ◌≤◌, ◌<◌}
-use native.Mathlib.Nat.{le_refl}
-use native.Mathlib.Omega.{arith}
-use lib.ListN.{length, get_or, replicate, get_or-eq_default}
+use Rattle.std.proofs.Common.{◌≡◌, refl, sym, ap, ap₂, ◌∙◌, List, ◌⊎◌, inl, inr, ℕ, ◌+◌, ◌≤◌, ◌<◌, le_refl, arith}
+use Rattle.std.proofs.Common.{length, get_or, replicate}
+use lib.ListN.{get_or-eq_default}
 use Rattle.std.specs.Prelude.{if◌then◌else◌, Ok, Err}
 use Rattle.std.proofs.lemmas.Bool.{cond-false, cases_lt}
 use Rattle.lists.specs.Run.{listed, padded}

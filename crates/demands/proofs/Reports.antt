@@ -1,10 +1,7 @@
 -- What the reports of b7 and b8 answer after the plan of sheet B: by demand 3 what plan answers on the sheet as it then
 -- stands, whose line is that of the case.
 -- Assumes nothing.
-use mathlib.Core.Path.{◌≡◌, refl, sym, ap, subst}
-use mathlib.Core.List.{List}
-use Prim.Native.Nat.{ℕ, ◌≤◌}
-use native.Mathlib.Omega.{arith}
+use Rattle.std.proofs.Common.{◌≡◌, refl, sym, ap, subst, List, ℕ, ◌≤◌, arith}
 use Rattle.lists.specs.Choice.{if_same}
 use Rattle.lists.specs.Run.{run_of, listed}
 use Rattle.bits.specs.Field.{bit_at, field_of}

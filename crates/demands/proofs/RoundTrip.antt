@@ -2,12 +2,8 @@
 -- leaves is the sheet of its numbers, and the sheet of given numbers is unique.
 -- Assumes nothing.
 use Rattle.terms.specs.Answer.{head, Answer, answer_of}
-use mathlib.Core.Path.{◌≡◌, refl, sym, ap, ap₂, subst, ◌∙◌}
-use mathlib.Core.List.{List}
-use Prim.Native.Nat.{ℕ, ◌+◌, ◌-◌, ◌≤◌}
-use native.Mathlib.Omega.{arith}
-use lib.ListN.{length, take}
-use lib.Seq.{ext_get_or, get_or-take, length-take-le}
+use Rattle.std.proofs.Common.{◌≡◌, refl, sym, ap, ap₂, subst, ◌∙◌, List, ℕ, ◌+◌, ◌-◌, ◌≤◌, arith, length, take}
+use Rattle.std.proofs.Common.{ext_get_or, get_or-take, length-take-le}
 use Rattle.lists.specs.Run.{nth, padded}
 use Rattle.lists.proofs.Run.{padded_length, padded_nth}
 use Rattle.bits.specs.Field.{Bytes}

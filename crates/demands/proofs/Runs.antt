@@ -2,13 +2,7 @@
 -- are its plan's; so no cell is over the limit, and rows 1 to a train worked anew are the whole plan of the sheet as it
 -- then stands.
 -- Assumes nothing.
-use mathlib.Core.Path.{◌≡◌, refl, sym, ap, subst, ◌∙◌}
-use mathlib.Core.List.{List}
-use mathlib.Core.Logic.{inl, inr}
-use Prim.Native.Nat.{ℕ, ◌+◌, ◌≤◌}
-use native.Mathlib.Nat.{le_trans}
-use native.Mathlib.Omega.{arith}
-use lib.ListN.{get_or}
+use Rattle.std.proofs.Common.{◌≡◌, refl, sym, ap, subst, ◌∙◌, List, inl, inr, ℕ, ◌+◌, ◌≤◌, le_trans, arith, get_or}
 use Rattle.terms.specs.declared.Refusal.{Refusal}
 use Rattle.std.specs.Prelude.{Ok, Err}
 use Rattle.terms.specs.Verdict.{Verdict, Fine, number_in}

@@ -1,8 +1,7 @@
 -- What plan answers on sheets A, B and B with T 13: each is accepted and its line is that of its case, by computing
 -- both; what is printed for the case is then the plan.
 -- Assumes nothing.
-use mathlib.Core.Path.{◌≡◌, refl}
-use native.Mathlib.Omega.{arith}
+use Rattle.std.proofs.Common.{◌≡◌, refl, arith}
 use Rattle.lists.specs.Choice.{if_below}
 use Rattle.lists.specs.Run.{run_of, listed}
 use Rattle.bits.specs.Field.{bit_at, field_of}

@@ -1,10 +1,7 @@
 -- No useless version keeps the contracts: on sheet B the answer is 176, and decision byte 2 is 0; with T 13 it is 1,
 -- and so it is after the report of b7, which answers 68.
 -- Assumes nothing.
-use mathlib.Core.Path.{◌≡◌, sym, ap, subst, ◌∙◌}
-use mathlib.Core.List.{List}
-use Prim.Native.Nat.{ℕ}
-use native.Mathlib.Omega.{arith}
+use Rattle.std.proofs.Common.{◌≡◌, sym, ap, subst, ◌∙◌, List, ℕ, arith}
 use Rattle.lists.specs.Run.{nth, padded}
 use Rattle.lists.proofs.Choice.{below_yes}
 use Rattle.lists.proofs.Run.{padded_nth}

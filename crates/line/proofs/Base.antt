@@ -1,9 +1,7 @@
 -- The base, document 01's own line: its slack, its arrivals, what its passengers count, its ranges, and which such
 -- lines are alike.
 -- Assumes nothing.
-use mathlib.Core.Path.{◌≡◌, refl, ap}
-use Prim.Native.Nat.{ℕ, ◌+◌, ◌-◌, ◌≤◌, ◌<◌}
-use native.Mathlib.Omega.{arith}
+use Rattle.std.proofs.Common.{◌≡◌, refl, ap, ℕ, ◌+◌, ◌-◌, ◌≤◌, ◌<◌, arith}
 use Rattle.std.specs.Prelude.{if◌then◌else◌}
 use Rattle.line.specs.Line.{Line, line_from}
 use Rattle.line.specs.Policy.{Policy, arrival, departure, Day, dropped, counts}

@@ -1,10 +1,8 @@
 -- How large delays and cells can be. A worked cell is no more than its keep, and so no more than all who leave its row,
 -- times the largest delay, whatever stands in the later rows.
 -- Assumes nothing.
-use mathlib.Core.Path.{◌≡◌, refl, ap, sym, ◌∙◌}
-use Prim.Native.Nat.{ℕ, ◌+◌, ◌*◌, ◌≤◌, ◌<◌}
-use native.Mathlib.Nat.{le_refl, le_trans, le_of_eq, mul-le-mul}
-use native.Mathlib.Omega.{arith}
+use Rattle.std.proofs.Common.{◌≡◌, refl, ap, sym, ◌∙◌, ℕ, ◌+◌, ◌*◌, ◌≤◌, ◌<◌, le_refl, le_trans, le_of_eq, mul-le-mul}
+use Rattle.std.proofs.Common.{arith}
 use Rattle.lists.proofs.Induction.{up}
 use Rattle.line.specs.Line.{Running}
 use Rattle.line.specs.Policy.{Decision, Keep, Go, Policy, departs, arrival, departure}

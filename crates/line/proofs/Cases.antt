@@ -1,11 +1,9 @@
 -- Document 01's cases. What is printed is computed anew: delays and totals by following the decisions, the plan by
 -- listing all policies, the cells by the rule. General laws say that what is computed so is what the case claims.
 -- Assumes nothing.
-use mathlib.Core.Path.{◌≡◌, refl, ap, sym, ◌∙◌}
-use mathlib.Core.List.{List, [], ◌∷◌, map, Memᴰ}
-use Prim.Native.Nat.{ℕ, zero, suc, ◌-◌, ◌<◌}
-use native.Mathlib.Omega.{arith}
-use lib.ListN.{length, get_or}
+use Rattle.std.proofs.Common.{◌≡◌, refl, ap, sym, ◌∙◌, List, [], ◌∷◌, map, ℕ, zero, suc, ◌-◌, ◌<◌, arith, length}
+use Rattle.std.proofs.Common.{get_or}
+use mathlib.Core.List.{Memᴰ}
 use Rattle.lists.specs.Choice.{if_below, if_same}
 use Rattle.lists.specs.Run.{run_of, listed}
 use Rattle.lists.proofs.Run.{listed_length}

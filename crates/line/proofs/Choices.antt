@@ -1,10 +1,6 @@
 -- The two choices of a cell, and the cell on which a run begins.
 -- Assumes nothing.
-use mathlib.Core.Path.{◌≡◌, refl, sym, ◌∙◌}
-use mathlib.Core.Logic.{inl, inr}
-use Prim.Native.Nat.{ℕ, zero, suc, ◌≤◌, ◌<◌}
-use native.Mathlib.Nat.{le_refl}
-use native.Mathlib.Omega.{arith}
+use Rattle.std.proofs.Common.{◌≡◌, refl, sym, ◌∙◌, inl, inr, ℕ, zero, suc, ◌≤◌, ◌<◌, le_refl, arith}
 use Rattle.lists.proofs.Choice.{below_yes, below_no}
 use Rattle.std.proofs.lemmas.Bool.{cases_lt}
 use Rattle.line.specs.Policy.{Keep, Go}

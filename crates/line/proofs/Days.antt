@@ -1,8 +1,6 @@
 -- Two days alike, and what they are read from: the trains in use alone.
 -- Assumes nothing.
-use mathlib.Core.Path.{◌≡◌, refl, ap, ap₂, sym, subst, ◌∙◌}
-use Prim.Native.Nat.{ℕ, ◌+◌, ◌-◌, ◌*◌, ◌≤◌, ◌<◌}
-use native.Mathlib.Omega.{arith}
+use Rattle.std.proofs.Common.{◌≡◌, refl, ap, ap₂, sym, subst, ◌∙◌, ℕ, ◌+◌, ◌-◌, ◌*◌, ◌≤◌, ◌<◌, arith}
 use Rattle.lists.proofs.Induction.{down, up}
 use Rattle.line.specs.Line.{Running, Line}
 use Rattle.line.specs.Policy.{Policy, arrival, excess, departure, missed, Day, day_of, counts, pairs_total, total}

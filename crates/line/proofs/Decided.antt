@@ -1,12 +1,8 @@
 -- A policy that is read off cells, whatever they hold: its runs are those by which it was read off, because the cells
 -- go only where there is an excess, so that each go is a miss and begins a run.
 -- Assumes nothing.
-use mathlib.Core.Path.{◌≡◌, refl, ap, sym, ◌∙◌}
-use mathlib.Core.Logic.{inl, inr}
-use mathlib.Core.Bool.{true}
-use Prim.Native.Nat.{ℕ, zero, suc, ◌+◌, ◌-◌, ◌≤◌, ◌<◌}
-use native.Mathlib.Nat.{le_refl, le_of_eq, eq-or-lt_of_le}
-use native.Mathlib.Omega.{arith}
+use Rattle.std.proofs.Common.{◌≡◌, refl, ap, sym, ◌∙◌, inl, inr, true, ℕ, zero, suc, ◌+◌, ◌-◌, ◌≤◌, ◌<◌, le_refl}
+use Rattle.std.proofs.Common.{le_of_eq, eq-or-lt_of_le, arith}
 use Rattle.lists.specs.Choice.{if_below}
 use Rattle.lists.proofs.Choice.{below_yes, below_no}
 use Rattle.std.proofs.lemmas.Bool.{cases_lt}

@@ -2,11 +2,8 @@
 -- station by no more than the station costs, and by just that where the policy does what the cells say. Summed up, no
 -- policy has less than the cell at which it begins, and one that does what the cells say has just that.
 -- Assumes nothing.
-use mathlib.Core.Path.{◌≡◌, ap, subst, ◌∙◌}
-use mathlib.Core.Logic.{inl, inr}
-use Prim.Native.Nat.{ℕ, ◌+◌, ◌≤◌, ◌<◌}
-use native.Mathlib.Nat.{le_refl, le_trans, le_of_eq, eq-or-lt_of_le}
-use native.Mathlib.Omega.{arith}
+use Rattle.std.proofs.Common.{◌≡◌, ap, subst, ◌∙◌, inl, inr, ℕ, ◌+◌, ◌≤◌, ◌<◌, le_refl, le_trans, le_of_eq}
+use Rattle.std.proofs.Common.{eq-or-lt_of_le, arith}
 use Rattle.std.specs.Prelude.{if◌then◌else◌}
 use Rattle.std.proofs.lemmas.Bool.{cond-false, cases_Bool}
 use Rattle.line.specs.Line.{Running, Line}

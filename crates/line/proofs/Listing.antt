@@ -3,13 +3,9 @@
 --   PlanFrom L i p      of the policies that decide as p does before train i, p is the plan
 --   first_least L n ds  of the decisions that begin with ds and go on for n trains, the first of least total
 -- Assumes nothing.
-use mathlib.Core.Path.{◌≡◌, refl, sym, subst, ◌∙◌}
-use mathlib.Core.List.{List, [], ◌∷◌, ◌++◌}
-use mathlib.Core.Logic.{inl, inr}
-use Prim.Native.Nat.{ℕ, zero, suc, ◌+◌, ◌-◌, ◌≤◌, ◌<◌}
-use native.Mathlib.Nat.{le_trans, le_of_eq, eq-or-lt_of_le}
-use native.Mathlib.Omega.{arith}
-use lib.ListN.{length, length-append, get_or-append}
+use Rattle.std.proofs.Common.{◌≡◌, refl, sym, subst, ◌∙◌, List, [], ◌∷◌, ◌++◌, inl, inr, ℕ, zero, suc, ◌+◌, ◌-◌, ◌≤◌}
+use Rattle.std.proofs.Common.{◌<◌, le_trans, le_of_eq, eq-or-lt_of_le, arith, length, length-append}
+use lib.ListN.{get_or-append}
 use lib.Seq.{get_or_at}
 use Rattle.lists.specs.Choice.{if_below}
 use Rattle.lists.proofs.Choice.{below_yes, below_no}

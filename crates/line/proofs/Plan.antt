@@ -1,11 +1,8 @@
 -- Laws of the plan by its definition alone: two plans agree on trains 2 to m, nothing else of them is read, and a
 -- station with excess 0 shows keep.
 -- Assumes nothing.
-use mathlib.Core.Path.{◌≡◌, refl, sym, subst, ◌∙◌}
-use mathlib.Core.Logic.{inl, inr}
-use Prim.Native.Nat.{ℕ, ◌+◌, ◌≤◌, ◌<◌}
-use native.Mathlib.Nat.{le_trans, le_of_eq, le_antisymm, eq-or-lt_of_le}
-use native.Mathlib.Omega.{arith}
+use Rattle.std.proofs.Common.{◌≡◌, refl, sym, subst, ◌∙◌, inl, inr, ℕ, ◌+◌, ◌≤◌, ◌<◌, le_trans, le_of_eq, le_antisymm}
+use Rattle.std.proofs.Common.{eq-or-lt_of_le, arith}
 use Rattle.lists.specs.Choice.{if_same}
 use Rattle.lists.proofs.Choice.{same_yes, same_no}
 use Rattle.std.proofs.lemmas.Bool.{cases_eq}

@@ -1,12 +1,9 @@
 -- Tables written out as rows. Rows that are what the rule makes of themselves are worked.
 --   rows_of m c   the cells in use of the table c for m trains, row by row
 -- Assumes nothing.
-use mathlib.Core.Path.{◌≡◌, refl, ap, sym, ◌∙◌}
-use mathlib.Core.List.{List, [], ◌∷◌, map}
-use mathlib.Core.Logic.{inl, inr}
-use Prim.Native.Nat.{ℕ, zero, suc, ◌+◌, ◌-◌, ◌≤◌}
-use native.Mathlib.Omega.{arith}
-use lib.ListN.{length, get_or, get_or-eq_default}
+use Rattle.std.proofs.Common.{◌≡◌, refl, ap, sym, ◌∙◌, List, [], ◌∷◌, map, inl, inr, ℕ, zero, suc, ◌+◌, ◌-◌, ◌≤◌, arith}
+use Rattle.std.proofs.Common.{length, get_or}
+use lib.ListN.{get_or-eq_default}
 use Rattle.lists.specs.Choice.{if_below}
 use Rattle.lists.specs.Run.{run_of, listed, nth}
 use Rattle.lists.proofs.Choice.{below_yes, below_no}

@@ -3,12 +3,8 @@
 -- stations. It holds of any day, under a policy or not.
 --   run_cost L D k s   what station s and train s cost those who board at k or later
 -- Assumes nothing.
-use mathlib.Core.Path.{◌≡◌, ap, ap₂, sym, ◌∙◌}
-use mathlib.Core.Bool.{true}
-use mathlib.Core.Logic.{inl, inr}
-use Prim.Native.Nat.{ℕ, ◌+◌, ◌*◌, ◌≤◌}
-use native.Mathlib.Nat.{le_refl, mul_comm, add-zero}
-use native.Mathlib.Omega.{arith}
+use Rattle.std.proofs.Common.{◌≡◌, ap, ap₂, sym, ◌∙◌, true, inl, inr, ℕ, ◌+◌, ◌*◌, ◌≤◌, le_refl, mul_comm, add-zero}
+use Rattle.std.proofs.Common.{arith}
 use Rattle.std.specs.Prelude.{if◌then◌else◌}
 use Rattle.std.proofs.lemmas.Bool.{cond-true, cond-false, cases_Bool}
 use Rattle.line.specs.Sum.{sum◌from◌to◌}

@@ -1,9 +1,6 @@
 -- Laws of sums, and of a sum against what falls along it. `over a b f` has the end b outside: f a + .. + f (b - 1).
 -- Assumes nothing.
-use mathlib.Core.Path.{◌≡◌, refl, ap, ◌∙◌}
-use Prim.Native.Nat.{ℕ, ◌+◌, ◌-◌, ◌*◌, ◌≤◌, ◌<◌}
-use native.Mathlib.Nat.{le_refl}
-use native.Mathlib.Omega.{arith}
+use Rattle.std.proofs.Common.{◌≡◌, refl, ap, ◌∙◌, ℕ, ◌+◌, ◌-◌, ◌*◌, ◌≤◌, ◌<◌, le_refl, arith}
 use Rattle.lists.specs.Run.{run_of}
 use Rattle.lists.proofs.Run.{run_next, run_none, run_same}
 use Rattle.lists.proofs.Induction.{down}

@@ -1,11 +1,8 @@
 -- Worked tables: there is one and no other, and one that is worked anew up to row t after a change of trains up to t is
 -- the worked table of the changed line.
 -- Assumes nothing.
-use mathlib.Core.Path.{◌≡◌, refl, ap, sym, ◌∙◌}
-use mathlib.Core.Logic.{inl, inr}
-use Prim.Native.Nat.{ℕ, zero, suc, ◌+◌, ◌-◌, ◌*◌, ◌≤◌, ◌<◌}
-use native.Mathlib.Nat.{le_refl, eq-or-lt_of_le}
-use native.Mathlib.Omega.{arith}
+use Rattle.std.proofs.Common.{◌≡◌, refl, ap, sym, ◌∙◌, inl, inr, ℕ, zero, suc, ◌+◌, ◌-◌, ◌*◌, ◌≤◌, ◌<◌, le_refl}
+use Rattle.std.proofs.Common.{eq-or-lt_of_le, arith}
 use Rattle.lists.specs.Choice.{if_below}
 use Rattle.lists.proofs.Choice.{below_yes, below_no}
 use Rattle.std.proofs.lemmas.Bool.{cases_lt}

@@ -1,10 +1,7 @@
 -- How large the sums and the totals of a line can be, by its passengers.
 -- Assumes nothing.
-use mathlib.Core.Path.{◌≡◌, refl, ap, sym, ◌∙◌}
-use mathlib.Core.Bool.{Bool, true, false}
-use Prim.Native.Nat.{ℕ, ◌+◌, ◌-◌, ◌*◌, ◌≤◌, ◌<◌}
-use native.Mathlib.Nat.{le_refl, le_trans, le_of_eq, mul-le-mul}
-use native.Mathlib.Omega.{arith}
+use Rattle.std.proofs.Common.{◌≡◌, refl, ap, sym, ◌∙◌, Bool, true, false, ℕ, ◌+◌, ◌-◌, ◌*◌, ◌≤◌, ◌<◌, le_refl, le_trans}
+use Rattle.std.proofs.Common.{le_of_eq, mul-le-mul, arith}
 use Rattle.std.specs.Prelude.{if◌then◌else◌}
 use Rattle.lists.specs.Run.{run_of}
 use Rattle.lists.proofs.Induction.{down}

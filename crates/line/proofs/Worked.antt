@@ -1,10 +1,6 @@
 -- A worked table gives the plan, and each of its cells is what document 01 says that it is.
 -- Assumes nothing.
-use mathlib.Core.Path.{◌≡◌, ap, sym, ◌∙◌}
-use mathlib.Core.Logic.{inl, inr}
-use Prim.Native.Nat.{ℕ, ◌+◌, ◌-◌, ◌≤◌, ◌<◌}
-use native.Mathlib.Nat.{le_of_eq, le_antisymm}
-use native.Mathlib.Omega.{arith}
+use Rattle.std.proofs.Common.{◌≡◌, ap, sym, ◌∙◌, inl, inr, ℕ, ◌+◌, ◌-◌, ◌≤◌, ◌<◌, le_of_eq, le_antisymm, arith}
 use Rattle.line.specs.Line.{Running, Line}
 use Rattle.line.specs.Policy.{Decision, Keep, Policy, day_of, pairs_total, total}
 use Rattle.line.specs.Plan.{FirstDifference, IsPlan}

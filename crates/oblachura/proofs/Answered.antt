@@ -1,13 +1,7 @@
 -- Demand 1 of one call from C, from that of the operation. A call either ran the operation, whose answer it returned
 -- and stored, or had a wrong list for the answer, returned 10 and left everything as it was.
 -- Assumes nothing.
-use Prim.Native.Nat.{ℕ}
-use native.Mathlib.Nat.{le_trans, le_of_eq}
-use native.Mathlib.Omega.{arith}
-use mathlib.Core.Path.{◌≡◌, ap, sym, ◌∙◌}
-use mathlib.Core.Logic.{inl, inr}
-use mathlib.Core.List.{List}
-use lib.ListN.{length}
+use Rattle.std.proofs.Common.{ℕ, le_trans, le_of_eq, arith, ◌≡◌, ap, sym, ◌∙◌, inl, inr, List, length}
 use Rattle.lists.specs.Run.{nth}
 use Rattle.std.proofs.lemmas.Bool.{cases_eq}
 use Rattle.terms.specs.declared.Refusal.{Refusal}

@@ -1,11 +1,6 @@
 -- A call from C: how it comes about, what it returns, and that two which keep one promise leave the same.
 -- Assumes nothing.
-use Prim.Native.Nat.{ℕ}
-use native.Mathlib.Omega.{arith}
-use mathlib.Core.Path.{◌≡◌, refl, ap, sym, ◌∙◌}
-use mathlib.Core.Logic.{inl, inr}
-use mathlib.Core.List.{List, ◌∷◌}
-use lib.ListN.{length}
+use Rattle.std.proofs.Common.{ℕ, arith, ◌≡◌, refl, ap, sym, ◌∙◌, inl, inr, List, ◌∷◌, length}
 use Rattle.std.proofs.lemmas.Bool.{cases_eq}
 use Rattle.terms.specs.declared.ListFault.TheVariants.{BufferLength}
 use Rattle.terms.specs.declared.Refusal.TheVariants.{OfList}

@@ -1,10 +1,6 @@
 -- The promises of the four calls from C hold, each by the operation's own.
 -- Assumes nothing.
-use Prim.Native.Nat.{ℕ}
-use mathlib.Core.Path.{◌≡◌, ap, sym, ◌∙◌}
-use mathlib.Core.Logic.{inl, inr}
-use mathlib.Core.List.{List, ◌∷◌, []}
-use lib.ListN.{length}
+use Rattle.std.proofs.Common.{ℕ, ◌≡◌, ap, sym, ◌∙◌, inl, inr, List, ◌∷◌, [], length}
 use Rattle.std.proofs.lemmas.Bool.{cases_eq}
 use Rattle.terms.specs.Verdict.{Verdict, number_in, place_in}
 use Rattle.terms.specs.Answer.{Answer, answer_number, answer_carries}

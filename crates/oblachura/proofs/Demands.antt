@@ -1,11 +1,7 @@
 -- The three demands hold of the calls from C: each promise can be kept and leaves nothing open, because the operation's
 -- does; what an accepted plan returned and stored is what the operation answered.
 -- Assumes nothing.
-use Prim.Native.Nat.{ℕ}
-use mathlib.Core.Path.{◌≡◌, refl, sym, subst, ◌∙◌}
-use mathlib.Core.Logic.{inl, inr}
-use mathlib.Core.List.{List}
-use lib.ListN.{length}
+use Rattle.std.proofs.Common.{ℕ, ◌≡◌, refl, sym, subst, ◌∙◌, inl, inr, List, length}
 use Rattle.std.proofs.lemmas.Bool.{cases_eq}
 use Rattle.bits.specs.Field.{Bytes}
 use Rattle.terms.specs.declared.ListFault.TheVariants.{BufferLength}

@@ -1,9 +1,6 @@
 -- What a plan or a report leaves that is refused: on 10 everything as it was, on any other number blanks.
 -- Assumes nothing.
-use Prim.Native.Nat.{ℕ}
-use native.Mathlib.Omega.{arith}
-use mathlib.Core.Path.{◌≡◌, ap, sym, ◌∙◌}
-use mathlib.Core.Logic.{inl, inr}
+use Rattle.std.proofs.Common.{ℕ, arith, ◌≡◌, ap, sym, ◌∙◌, inl, inr}
 use Rattle.terms.specs.declared.Refusal.{Refusal}
 use Rattle.terms.specs.Verdict.{Verdict, number_in}
 use Rattle.terms.specs.Answer.{Answer, answer_number}

@@ -1,11 +1,7 @@
 -- Demand 3 of the calls from C. A run of calls is one of operations: a call that ran the operation is its step, and one
 -- with a wrong list for the answer is none.
 -- Assumes nothing.
-use Prim.Native.Nat.{ℕ}
-use mathlib.Core.Path.{◌≡◌, ap, sym, ◌∙◌}
-use mathlib.Core.Logic.{inl, inr}
-use mathlib.Core.List.{List}
-use lib.ListN.{length, get_or}
+use Rattle.std.proofs.Common.{ℕ, ◌≡◌, ap, sym, ◌∙◌, inl, inr, List, length, get_or}
 use Rattle.std.proofs.lemmas.Bool.{cases_eq}
 use Rattle.terms.specs.Answer.{answer_number}
 use Rattle.sheet.specs.Format.{trains_of}

@@ -1,12 +1,8 @@
 -- What a call answers, refused and accepted; and that the promises leave nothing open: plans agree on the trains in
 -- use, and nothing else of them is shown; a report's sheet and cells are determined, and the rest is read off them.
 -- Assumes nothing.
-use mathlib.Core.Path.{◌≡◌, ap, sym, subst, ◌∙◌}
-use mathlib.Core.Bool.{false, true≢false}
-use mathlib.Core.List.{List}
-use mathlib.Core.Logic.{◌⊎◌, inl, inr}
-use Prim.Native.Nat.{ℕ, ◌≤◌}
-use lib.ListN.{length, replicate}
+use Rattle.std.proofs.Common.{◌≡◌, ap, sym, subst, ◌∙◌, false, true≢false, List, ◌⊎◌, inl, inr, ℕ, ◌≤◌, length}
+use Rattle.std.proofs.Common.{replicate}
 use Rattle.std.specs.Prelude.{if◌then◌else◌, Ok, Err}
 use Rattle.lists.specs.Run.{padded}
 use Rattle.std.proofs.lemmas.Bool.{cases_Bool, cond-true, cond-false}

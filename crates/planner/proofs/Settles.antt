@@ -1,10 +1,7 @@
 -- Settled work reads no more of a book than books alike have in common: what is settled for one is settled for the
 -- other. And buffers are equal list by list.
 -- Assumes nothing.
-use mathlib.Core.Path.{◌≡◌, ap, sym, ◌∙◌}
-use mathlib.Core.List.{List}
-use Prim.Native.Nat.{ℕ, ◌≤◌}
-use native.Mathlib.Omega.{arith}
+use Rattle.std.proofs.Common.{◌≡◌, ap, sym, ◌∙◌, List, ℕ, ◌≤◌, arith}
 use Rattle.lists.specs.Run.{padded}
 use Rattle.lists.proofs.Run.{padded_same}
 use Rattle.line.specs.Policy.{Policy, arrival}

@@ -28,7 +28,10 @@ fn prepare_sheet(sheet: &[u8], tables: &mut Tables) -> Reading
     let mut columns = Columns::zeros();
     let head = decode(sheet, &mut columns)?;
     fill_timing(&mut tables.timing, head, columns.lists());
-    sum_columns(&mut tables.sums, &Fields::new(head.trains, &columns.passengers));
+    sum_columns(
+        &mut tables.sums,
+        &Fields::new(head.trains, &columns.passengers),
+    );
     Ok(head)
 }
 

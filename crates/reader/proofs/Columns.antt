@@ -1,12 +1,7 @@
 -- The columns of a sheet: their fields lie within the sheet, and lists into which they were read keep their lengths,
 -- hold the sheet's numbers, and are the only such lists.
 -- Assumes nothing.
-use mathlib.Core.Path.{◌≡◌, sym, ◌∙◌}
-use mathlib.Core.List.{List}
-use mathlib.Core.Logic.{⊎_elim}
-use Prim.Native.Nat.{ℕ, ◌+◌, ◌-◌, ◌≤◌, ◌<◌}
-use native.Mathlib.Omega.{arith}
-use lib.Seq.{ext_get_or}
+use Rattle.std.proofs.Common.{◌≡◌, sym, ◌∙◌, List, ⊎_elim, ℕ, ◌+◌, ◌-◌, ◌≤◌, ◌<◌, arith, ext_get_or}
 use Rattle.lists.specs.Filled.{Filled}
 use Rattle.std.proofs.lemmas.Bool.{cases_lt}
 use Rattle.sheet.specs.Format.{trains_of, period_of, passenger_column, pairs_of}

@@ -1,5 +1,5 @@
 // Numbers of the input, high byte first; 0 for what the input lacks.
-ghost use Rattle.std.specs.Prelude.{IfOk, MatchOption, OnErr, [], ◌∷◌};
+ghost use Rattle.std.specs.Prelude.{◌≤◌, IfOk, MatchOption, OnErr, [], ◌∷◌, length};
 ghost use Rattle.std.specs.Io.KnownBytes.{Consumes, IsAtEnd, Keeps};
 
 use std::io;
@@ -50,7 +50,9 @@ pub fn long<R: Read>(from: &mut R) -> io::Result<u64> {
 pub const SHEET: usize = 4000;
 
 // A sheet: its length, cut to the room that there is, and its bytes.
-pub fn sheet<'a, R: Read>(from: &mut R, room: &'a mut [u8; SHEET]) -> io::Result<&'a mut [u8]> {
+pub fn sheet<'a, R: Read>(from: &mut R, room: &'a mut [u8; SHEET]) -> io::Result<&'a mut [u8]>
+    ensures { IfOk result (λ s. length s.now ≤ SHEET) }
+{
     let length = short(from)?.min(SHEET);
     let sheet = &mut room[..length];
     load(from, sheet)?;

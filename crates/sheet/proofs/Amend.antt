@@ -1,14 +1,8 @@
 -- One source delay replaced, in the same numbers and in an accepted sheet: the sheet stays accepted, and every other
 -- field is as it was.
 -- Assumes nothing.
-use mathlib.Core.Path.{◌≡◌, sym, ap, ◌∙◌}
-use mathlib.Core.List.{List}
-use mathlib.Core.Logic.{inl, inr, ⊎_elim}
-use Prim.Native.Nat.{ℕ, ◌+◌, ◌-◌, ◌*◌, ◌≤◌, ◌<◌}
+use Rattle.std.proofs.Common.{◌≡◌, sym, ap, ◌∙◌, List, inl, inr, ⊎_elim, ℕ, ◌+◌, ◌-◌, ◌*◌, ◌≤◌, ◌<◌, rules, arith, lit≤}
 use native.Mathlib.Decide.{ℕ_discrete}
-use borrow.Author.Rules.{rules}
-use native.Mathlib.Omega.{arith}
-use lib.Dec.{lit≤}
 use Rattle.lists.specs.Choice.{if_same}
 use Rattle.lists.proofs.Choice.{same_yes, same_no}
 use Rattle.std.proofs.lemmas.Bool.{cases_lt}

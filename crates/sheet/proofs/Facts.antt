@@ -1,11 +1,6 @@
 -- A verdict that is fine, in plain facts: the chain of checks and `Accepted` say the same.
 -- Assumes nothing.
-use mathlib.Core.Path.{◌≡◌}
-use mathlib.Core.List.{List}
-use Prim.Native.Nat.{ℕ, ◌≤◌, zero-le}
-use borrow.Author.Rules.{rules}
-use native.Mathlib.Omega.{arith}
-use lib.ListN.{length}
+use Rattle.std.proofs.Common.{◌≡◌, List, ℕ, ◌≤◌, zero-le, rules, arith, length}
 use Rattle.terms.specs.declared.Refusal.{Refusal}
 use Rattle.terms.specs.Verdict.{Fine}
 use Rattle.terms.proofs.Checks.{then_fine, fine_then, passed_of_fine, fine_of_passed, first_fine, fine_first}

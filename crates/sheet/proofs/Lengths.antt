@@ -1,14 +1,8 @@
 -- Laws of a sheet's lengths: its fields fill its bits, its bytes hold them with at most seven more, both are small,
 -- each field lies within the sheet, and two columns have no bit in common.
 -- Assumes nothing.
-use mathlib.Core.Path.{◌≡◌, refl}
-use mathlib.Core.List.{List}
-use mathlib.Core.Logic.{inl, inr, ⊎_elim}
-use Prim.Native.Nat.{ℕ, zero, suc, ◌+◌, ◌*◌, ◌%◌, ◌≤◌, ◌<◌}
-use native.Mathlib.Nat.{mul-le-mul, mul-add, suc-mul, mul-suc, mul-one}
-use native.Mathlib.Omega.{arith}
-use lib.Dec.{lit≤}
-use lib.ListN.{length}
+use Rattle.std.proofs.Common.{◌≡◌, refl, List, inl, inr, ⊎_elim, ℕ, zero, suc, ◌+◌, ◌*◌, ◌%◌, ◌≤◌, ◌<◌, mul-le-mul}
+use Rattle.std.proofs.Common.{mul-add, suc-mul, mul-suc, mul-one, arith, lit≤, length}
 use Rattle.std.proofs.lemmas.Bool.{cases_lt}
 use Rattle.bits.specs.Field.{Apart, Within}
 use Rattle.sheet.specs.Format.{bits_of, bytes_of, pairs_of}

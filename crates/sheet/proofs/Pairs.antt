@@ -1,10 +1,7 @@
 -- The passenger fields 1 to m(m+1)/2 and the pairs of stations correspond one to one, in the order of document 01.
 -- Assumes nothing.
-use mathlib.Core.Path.{◌≡◌, refl, sym, ap, ◌∙◌}
-use mathlib.Core.Logic.{◌⊎◌, inl, inr, ⊎_elim}
-use Prim.Native.Nat.{ℕ, zero, suc, ◌+◌, ◌-◌, ◌*◌, ◌/◌, ◌≤◌, ◌<◌}
-use native.Mathlib.Nat.{not-suc-le-zero, mul-suc, suc-mul, mul-add, mul-one}
-use native.Mathlib.Omega.{arith}
+use Rattle.std.proofs.Common.{◌≡◌, refl, sym, ap, ◌∙◌, ◌⊎◌, inl, inr, ⊎_elim, ℕ, zero, suc, ◌+◌, ◌-◌, ◌*◌, ◌/◌, ◌≤◌}
+use Rattle.std.proofs.Common.{◌<◌, not-suc-le-zero, mul-suc, suc-mul, mul-add, mul-one, arith}
 use Rattle.std.proofs.lemmas.Bool.{cases_lt}
 use Rattle.sheet.specs.Format.{pairs_of}
 use Rattle.sheet.specs.Pairs.{IsPair, fields_up_to, field_of_pair}

@@ -1,14 +1,8 @@
 -- The refusals that a sheet can meet: each blanks in a plan and in a report, and none is 13, which is write's alone,
 -- because a driving time of a sheet has 10 bits.
 -- Assumes nothing.
-use mathlib.Core.Path.{◌≡◌, sym, ap, ◌∙◌}
-use mathlib.Core.Bool.{true, false, true≢false}
-use mathlib.Core.List.{List}
-use mathlib.Core.Logic.{inl, inr}
-use Prim.Native.Nat.{ℕ, ◌+◌, ◌-◌, ◌*◌, ◌≤◌}
-use borrow.Author.Rules.{rules}
-use native.Mathlib.Omega.{arith}
-use lib.Dec.{eqb}
+use Rattle.std.proofs.Common.{◌≡◌, sym, ap, ◌∙◌, true, false, true≢false, List, inl, inr, ℕ, ◌+◌, ◌-◌, ◌*◌, ◌≤◌, rules}
+use Rattle.std.proofs.Common.{arith, eqb}
 use Rattle.bits.proofs.Fields.{field_lt}
 use Rattle.terms.specs.declared.Refusal.{Refusal}
 use Rattle.std.specs.Prelude.{Err}

@@ -1,9 +1,7 @@
 -- The definitions against the bytes that document 01 prints: sheet A holds
 -- its numbers and is accepted; the three lengths. The checker computes both.
 -- Assumes nothing.
-use mathlib.Core.Path.{◌≡◌, refl, subst}
-use Prim.Native.Nat.{ℕ, ◌≤◌}
-use native.Mathlib.Omega.{arith}
+use Rattle.std.proofs.Common.{◌≡◌, refl, subst, ℕ, ◌≤◌, arith}
 use Rattle.lists.specs.Choice.{if_below}
 use Rattle.lists.specs.Run.{run_of}
 use Rattle.bits.specs.Field.{bit_at, field_of}

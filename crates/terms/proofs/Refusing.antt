@@ -3,12 +3,7 @@
 --   Only P v   whatever the verdict v refuses for, P holds of it
 --   Each P checks   of each check, P holds of what it refuses for, or it passes
 -- Assumes nothing.
-use mathlib.Core.Path.{◌≡◌, refl, sym, ◌∙◌}
-use mathlib.Core.Bool.{true, false}
-use mathlib.Core.List.{List, [], ◌∷◌}
-use mathlib.Core.Logic.{◌⊎◌, inl, inr}
-use Prim.Native.Nat.{ℕ, zero, suc, ◌+◌}
-use native.Mathlib.Omega.{arith}
+use Rattle.std.proofs.Common.{◌≡◌, refl, sym, ◌∙◌, true, false, List, [], ◌∷◌, ◌⊎◌, inl, inr, ℕ, zero, suc, ◌+◌, arith}
 use Rattle.lists.specs.Run.{run_of}
 use Rattle.terms.specs.declared.ListFault.TheVariants.{BufferLength, ListLength}
 use Rattle.terms.specs.declared.HeadFault.TheVariants.{NoHead, TrainCount, Period, TooShort, TooLong}

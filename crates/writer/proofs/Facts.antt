@@ -1,7 +1,6 @@
 -- A verdict of write that is fine, in plain facts: the chain of checks and `Accepts` say the same.
 -- Assumes nothing.
-use mathlib.Core.Path.{◌≡◌}
-use Prim.Native.Nat.{ℕ}
+use Rattle.std.proofs.Common.{◌≡◌, ℕ}
 use Rattle.terms.specs.Verdict.{Fine}
 use Rattle.terms.proofs.Checks.{then_fine, fine_then, passed_of_fine, fine_of_passed}
 use Rattle.sheet.proofs.Facts.{lengths_of_fine, fine_of_lengths, ranges_of_fine, fine_of_ranges, in_range_of_fine}

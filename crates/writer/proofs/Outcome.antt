@@ -1,11 +1,7 @@
 -- What write leaves, refused and accepted; and that its promise leaves nothing open.
 -- Assumes nothing.
-use mathlib.Core.Path.{◌≡◌, refl, sym, ap, ap₂, ◌∙◌}
-use mathlib.Core.List.{List, ◌++◌}
-use mathlib.Core.Logic.{⊎_elim}
-use Prim.Native.Nat.{ℕ}
-use lib.ListN.{length, drop, take-append-drop}
-use lib.Seq.{take_at, drop_at}
+use Rattle.std.proofs.Common.{◌≡◌, refl, sym, ap, ap₂, ◌∙◌, List, ◌++◌, ⊎_elim, ℕ, length, drop, take-append-drop}
+use Rattle.std.proofs.Common.{take_at, drop_at}
 use Rattle.terms.specs.declared.Refusal.{Refusal}
 use Rattle.std.specs.Prelude.{Ok, Err}
 use Rattle.terms.specs.Verdict.{Verdict, Fine}

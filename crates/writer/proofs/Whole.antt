@@ -1,13 +1,8 @@
 -- The steps of writing, put together: what each step leaves
 -- stays under the later ones, so that the result is the sheet.
 -- Assumes nothing.
-use mathlib.Core.Path.{◌≡◌, ◌∙◌}
-use mathlib.Core.List.{List}
-use mathlib.Core.Logic.{inl, inr, ⊎_elim}
-use Prim.Native.Nat.{ℕ, ◌+◌, ◌-◌, ◌*◌, ◌^◌, ◌≤◌, ◌<◌}
-use native.Mathlib.Omega.{arith}
-use lib.Dec.{lit≤}
-use lib.ListN.{length, get_or}
+use Rattle.std.proofs.Common.{◌≡◌, ◌∙◌, List, inl, inr, ⊎_elim, ℕ, ◌+◌, ◌-◌, ◌*◌, ◌^◌, ◌≤◌, ◌<◌, arith, lit≤, length}
+use Rattle.std.proofs.Common.{get_or}
 use Rattle.bits.specs.Field.{field_of, Apart, Bytes}
 use Rattle.bits.proofs.Puts.{put_apart}
 use Rattle.sheet.specs.Format.{trains_of, departure_column, driving_column, delay_column}

@@ -1,7 +1,5 @@
 -- `plan` meets its contract: the checks, then the work on the sheet's times and sums.
-use mathlib.Core.Path.{refl, sym, ◌∙◌}
-use native.Mathlib.Nat.{le_refl}
-use native.Mathlib.Omega.{arith}
+use Rattle.std.proofs.Common.{refl, sym, ◌∙◌, le_refl, arith}
 use Rattle.line.specs.Line.{line_from}
 use Rattle.sheet.specs.Numbers.{numbers_of}
 use Rattle.sheet.specs.Checks.{sheet_verdict}

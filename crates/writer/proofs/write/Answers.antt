@@ -1,15 +1,10 @@
 -- `writer::write` meets its contract: all checks, then the sheet into the first bytes.
-use mathlib.Core.Path.{◌≡◌, sym, ◌∙◌}
-use Prim.Native.Nat.{◌≤◌}
-use Rattle.std.proofs.Common.{arith, rules, Err}
-use lib.ListN.{length}
-use lib.Seq.{length-take-le}
+use Rattle.std.proofs.Common.{arith, ◌≡◌, sym, ◌∙◌, ◌≤◌, length, length-take-le}
 use Rattle.terms.specs.Verdict.{Fine}
 use Rattle.sheet.specs.Held.{lent}
 use Rattle.sheet.proofs.Lengths.{bytes_le}
 use Rattle.writer.specs.Write.{given, write_verdict}
 use Rattle.writer.proofs.Facts.{accepts_of_fine}
-use Rattle.writer.proofs.Outcome.{write_refused, write_accepted}
 use Rattle.writer.proofs.write.Goals as goal
 use Rattle.writer.proofs.write.Goals.{After-bytes_of-n, In_ok-check_write}
 
@@ -24,12 +19,6 @@ room : (c : After-bytes_of-n) → c.bytes_of-n.result ≤ length c.args.sheet.no
 room c =
     let accepts = accepts_of_fine _ _ (sym c.check_write.ensures ∙ c.in_ok-check_write.was) in
     omega (arith, c.bytes_of-n.ensures, accepts.room_is, bytes_le _ accepts.range.trains_most)
-
--- refused
-pub returns-in_err-check_write : goal.returns-in_err-check_write
-returns-in_err-check_write c =
-    let same : c.from_residual.result ≡ Err c.in_err-check_write.field-0.0 = search rules in
-    rw same (write_refused _ _ (sym c.in_err-check_write.was ∙ c.check_write.ensures))
 
 pub bytes_of-n-requires : goal.bytes_of-n-requires
 bytes_of-n-requires c = (accepts_of_fine _ _ (fine (goal.at.bytes_of-n-requires c).In_ok-check_write)).range.trains_most
@@ -50,8 +39,3 @@ put_sheet-requires c =
       lengths = accepts.lengths;
       range = accepts.range;
     }
-
--- accepted: the sheet stands first, the rest as it was
-pub returns : goal.returns
-returns c =
-    write_accepted _ _ c.bytes_of-n.ensures (sym (fine (goal.at.returns c).In_ok-check_write)) c.put_sheet.ensures

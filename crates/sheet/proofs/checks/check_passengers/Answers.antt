@@ -1,6 +1,6 @@
 -- `checks::check_passengers` meets its contract, by the invariant that stands in Invariants.antt.
 use Rattle.std.proofs.Common.{◌≡◌, refl, ap, ◌∙◌, ◌+◌, ◌<◌, ℕ, take, get_or, arith}
-use Rattle.terms.proofs.Checks.{search_first, search_next, search_stop, search_end, hit, miss, no_more}
+use Rattle.terms.proofs.Checks.{search_next, search_stop, search_end, hit, miss, no_more}
 use Rattle.sheet.specs.Checks.{passengers_verdict}
 use Rattle.std.proofs.lemmas.List.{get_or-take, length-take-le}
 use Rattle.lists.specs.Run.{nth}
@@ -17,9 +17,6 @@ same c =
     get_or-take c.args.n c.args.passengers.now c.loop-k.k 0
     (omega (arith, length-take-le c.args.n c.args.passengers.now c.requires.1))
     ∙ ap (λ (i : ℕ). get_or c.args.passengers.now i 0) (omega arith)
-
-pub loop-k-init : goal.loop-k-init
-loop-k-init c = search_first _ _ _
 
 -- a field was refused: it is the first
 pub returns-then-count-gt10000 : goal.returns-then-count-gt10000

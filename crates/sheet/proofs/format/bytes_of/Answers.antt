@@ -1,6 +1,5 @@
 -- `format::bytes_of` meets its contract.
-use mathlib.Core.Path.{refl}
-use native.Mathlib.Omega.{arith}
+use Rattle.std.proofs.Common.{refl, arith}
 use Rattle.sheet.specs.Format.{bytes_of}
 use Rattle.sheet.proofs.Lengths.{bits_le}
 use Rattle.sheet.proofs.format.bytes_of.Goals as goal

@@ -1,8 +1,5 @@
 -- `format::field_of_pair` meets its contract: half of a product, which is small.
-use mathlib.Core.Path.{◌≡◌, sym}
-use native.Mathlib.Nat.{le_trans, le_of_eq}
-use native.Mathlib.Omega.{arith}
-use Prim.Native.Nat.{◌+◌, ◌-◌, ◌*◌, ◌≤◌}
+use Rattle.std.proofs.Common.{◌≡◌, sym, le_trans, le_of_eq, arith, ◌+◌, ◌-◌, ◌*◌, ◌≤◌}
 use Rattle.sheet.specs.Pairs.{fields_up_to}
 use Rattle.sheet.proofs.Lengths.{pairs_le}
 use Rattle.sheet.proofs.Pairs.{fields_closed, field_closed, fields_mono, fields_all, pair_has_field}
@@ -23,14 +20,6 @@ before_fields c =
       omega (arith, fields_mono m k m inside, fields_all m, pairs_le m c.requires.0),
       inside,
     )
-
-pub overflow_mul-result-2 : goal.overflow_mul-result-2
-overflow_mul-result-2 c = omega (arith, before_fields (goal.at.overflow_mul-result-2 c).After-index-before)
-
--- the fields of 64 trains are few
-pub overflow_add-result-2 : goal.overflow_add-result-2
-overflow_add-result-2 c =
-    omega (arith, before_fields (goal.at.overflow_add-result-2 c).After-index-before, c.requires.1.most, c.requires.0)
 
 -- half the product is what the earlier stations have
 pub returns : goal.returns

@@ -1,6 +1,5 @@
 -- `putting::put_filling` meets its contract: the filling is at most seven bits of the last byte.
-use native.Mathlib.Omega.{arith}
-use lib.Pow.{pow_pos}
+use Rattle.std.proofs.Common.{arith, pow_pos}
 use Rattle.sheet.proofs.Lengths.{bits_le, bytes_bits}
 use Rattle.writer.proofs.putting.put_filling.Goals as goal
 
@@ -22,8 +21,3 @@ put-requires c =
     let b = bytes_bits c.args.m in
     let e = c.bits_of-n.ensures in
     (omega (arith, bits_le c.args.m c.requires.0), pow_pos _)
-
--- the filling begins behind the last field
-pub returns : goal.returns
-returns c =
-    rw (← c.bits_of-n.ensures, ← c.requires.1) c.put.ensures

@@ -1,7 +1,5 @@
 -- `putting::put_head` meets its contract: T does not touch m.
-use mathlib.Core.Path.{◌∙◌}
-use mathlib.Core.Logic.{inl}
-use lib.Dec.{lit≤}
+use Rattle.std.proofs.Common.{◌∙◌, inl, lit≤}
 use Rattle.bits.proofs.Puts.{put_apart}
 use Rattle.writer.proofs.putting.put_head.Goals as goal
 

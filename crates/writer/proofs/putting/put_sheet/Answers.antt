@@ -1,5 +1,5 @@
 -- `putting::put_sheet` meets its contract: head, times, passengers and filling make the sheet.
-use mathlib.Core.Path.{refl, ◌∙◌}
+use Rattle.std.proofs.Common.{refl, ◌∙◌}
 use Rattle.writer.proofs.Whole.{head_room, times_room, passengers_room, sheet_put}
 use Rattle.writer.proofs.putting.put_sheet.Goals as goal
 

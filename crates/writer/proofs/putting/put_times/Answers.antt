@@ -1,5 +1,5 @@
 -- `putting::put_times` meets its contract: each column has its room, and later columns leave earlier ones as they are.
-use mathlib.Core.Path.{refl, ◌∙◌}
+use Rattle.std.proofs.Common.{refl, ◌∙◌}
 use Rattle.sheet.specs.Format.{departure_column, driving_column}
 use Rattle.writer.specs.Putting.{ColumnPut}
 use Rattle.writer.proofs.Whole.{departures_room, driving_room, delays_room, times_put}
