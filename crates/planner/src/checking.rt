@@ -1,6 +1,6 @@
 // The checks of plan and of report, in their order. Sheet and cells are lent to be read, so that
 // neither is written before the last check.
-ghost use Rattle.std.specs.Prelude.{◌≡◌, ◌≤◌, length};
+ghost use Rattle.std.specs.Prelude.{◌≡◌, length};
 ghost use Rattle.terms.specs.Verdict.{Fine, verdict_of, ◌and_then◌};
 ghost use Rattle.sheet.specs.Format.{trains_of};
 ghost use Rattle.sheet.specs.Checks.{sheet_verdict};
@@ -10,7 +10,7 @@ ghost use Rattle.planner.specs.Buffers.{buffer_lengths_verdict};
 ghost use Rattle.planner.specs.ReportChecks.{report_checks, own_verdict};
 
 use cells::limits::check_rows_after;
-use cells::place::CELLS;
+use cells::place::{CELLS, Table};
 use cells::tables::Tables;
 use prepare::prepare;
 use reader::Reading;
@@ -51,12 +51,12 @@ fn check_reported(m: u32, train: Train, delay: u32) -> Verdict
 }
 
 // The train and its new delay, then the rows after it.
-fn check_own(m: u32, train: Train, delay: u32, cells: &[u64]) -> Verdict
-    requires { (m ≤ 64) × (length cells.now ≡ cell_count) }
-    ensures { result ≡ own_verdict m train.0 delay cells.now }
+fn check_own(table: &Table, train: Train, delay: u32) -> Verdict
+    ensures { result ≡ own_verdict table.now.m train.0 delay
+        table.now.cells.now }
 {
-    check_reported(m, train, delay)?;
-    check_rows_after(cells, m, train)
+    check_reported(table.m, train, delay)?;
+    check_rows_after(table, train)
 }
 
 // The sheet, whose times and sums are prepared, then the report's own; `earlier` is what the
@@ -77,6 +77,7 @@ pub fn check_report(
         sheet.now tables.new.timing tables.new.sums result }
 {
     let head = prepare(earlier, sheet, tables)?;
-    check_own(head.trains, train, delay, cells)?;
+    let table = Table::new(head.trains, cells);
+    check_own(&table, train, delay)?;
     Ok(head)
 }

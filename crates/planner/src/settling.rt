@@ -7,7 +7,7 @@ ghost use Rattle.planner.specs.Workable.{Workable};
 
 use cells::book::Book;
 use cells::costs::Costs;
-use cells::place::cell_at;
+use cells::place::Table;
 use cells::tables::Tables;
 use rows::work_rows;
 use terms::Train;
@@ -34,6 +34,7 @@ pub fn settle(
     let book = Book::new(m, tables);
     let mut costs = Costs::zeros();
     work_rows(cells, &mut costs, &book, last);
-    follow(decisions, delays, &mut costs, cells, &book);
-    cell_at(cells, m, Train(1), Train(1).leaves())
+    let table = Table::new(m, cells);
+    follow(decisions, delays, &mut costs, &table, &book);
+    table.cell_at(Train(1), Train(1).leaves())
 }

@@ -4,14 +4,14 @@
 
 ghost use Rattle.std.specs.Prelude.{◌≡◌, ◌≤◌, length};
 ghost use Rattle.line.specs.Cells.{lesser};
-ghost use Rattle.cells.specs.Place.{cell_count, RowsWorked};
+ghost use Rattle.cells.specs.Place.{RowsWorked};
 ghost use Rattle.cells.specs.Held.{book_held};
 ghost use Rattle.rows.specs.Rows.{Diagonal, RowRoom, RowFilled};
 ghost use Rattle.rows.specs.Rows.{RowGiven, RowWorked, RowsGiven};
 
 use cells::book::Book;
 use cells::costs::Costs;
-use cells::place::{cell_at, place};
+use cells::place::{Table, place};
 use terms::{Station, Train};
 
 // The lesser of the two choices; without an excess only keep is one.
@@ -44,15 +44,15 @@ fn fill_row(row: &mut [u64], first: Train, costs: &Costs, diagonal: &[u64; 64])
 
 // By station, the first cell of the row that begins there, for the rows after `last`.
 #[tactic(auto, using(lists::proofs::Held::held_set, lists::proofs::Held::nth_set_other))]
-fn diagonal_after(diagonal: &mut [u64; 64], cells: &[u64], m: u32, last: Train)
-    requires { (last.0 ≤ m) × (m ≤ 64) × (length cells.now ≡ cell_count) }
-    ensures { Diagonal m last.0 cells.now diagonal.old
+fn diagonal_after(diagonal: &mut [u64; 64], table: &Table, last: Train)
+    requires { last.0 ≤ table.now.m }
+    ensures { Diagonal table.now.m last.0 table.now.cells.now diagonal.old
         diagonal.new }
 {
-    for i in last.0 + 1..=m {
+    for i in last.0 + 1..=table.m {
         let train = Train(i);
         let at = train.leaves();
-        diagonal[at.index()] = cell_at(cells, m, train, at);
+        diagonal[at.index()] = table.cell_at(train, at);
     }
 }
 
@@ -85,7 +85,8 @@ pub fn work_rows(cells: &mut [u64], costs: &mut Costs, book: &Book, last: Train)
         cells.old cells.new }
 {
     let mut diagonal = [0u64; 64];
-    diagonal_after(&mut diagonal, cells, book.m, last);
+    let table = Table::new(book.m, cells);
+    diagonal_after(&mut diagonal, &table, last);
     for i in (1..=last.0).rev() {
         let train = Train(i);
         let cell = work_row(cells, costs, book, train, &diagonal);

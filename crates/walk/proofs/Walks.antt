@@ -12,15 +12,15 @@ use Rattle.line.specs.Ranges.{latest}
 use Rattle.line.proofs.Along.{excess_on_start, arrival_on_departed}
 use Rattle.line.proofs.Bounds.{arrival_on_le}
 use Rattle.line.proofs.Decided.{begins_next, begins_first, begins_le, policy_by_next, decided_arrives}
-use Rattle.cells.specs.Place.{table_of}
+use Rattle.cells.specs.declared.place.Table.{Table as Lent}
 use Rattle.cells.specs.declared.timing.Timing.{Timing}
 use Rattle.cells.specs.declared.costs.Costs.{Costs}
 use Rattle.cells.specs.declared.book.Book.{Book as Holder}
 use Rattle.cells.specs.Timing.{source_in, running_in}
-use Rattle.cells.specs.Held.{book_held}
+use Rattle.cells.specs.Held.{book_held, table_held}
 use Rattle.cells.specs.Costs.{excess_in, CostsAlong}
 use Rattle.cells.specs.Shown.{byte_of, shown}
-use Rattle.cells.proofs.Along.{keep_le, go_le, kept_arrives, kept_le}
+use Rattle.cells.proofs.Along.{keep_le, go_le, kept_arrives}
 use Rattle.cells.proofs.Bounded.{running_in_range}
 use Rattle.walk.specs.Walked.{Walked}
 use Rattle.walk.specs.Following.{chosen_by, ChoiceGiven, StepGiven, Stepped, WalkGiven}
@@ -33,25 +33,23 @@ begun timing l pos =
     let R = running_in timing in
     sym (arrival_on_departed R l l pos ∙ ap (λ (x : ℕ). x + source_in timing l) (excess_on_start R l l (le_refl l)))
 
-module _ (book : Holder) (k l : ℕ) (costs : Costs) (cells : List ℕ)
-    (step : StepGiven (book_held book) k l costs cells) where
+module _ (book : Holder) (k l : ℕ) (costs : Costs) (t : Lent)
+    (step : StepGiven (book_held book) k l costs t) where
   abbrev B : Book
   B = book_held book
 
   abbrev C : Table
-  C = table_of book.m cells
+  C = table_held t
 
-  pub step_chooses : ChoiceGiven book.m k l costs cells
+  pub step_chooses : ChoiceGiven k l costs t
   step_chooses =
       let run : k ≤ l = omega arith in
       record {
-        trains = book.given.times.trains;
         first = step.first;
         run = run;
-        last = step.last;
+        last = le_trans step.last book.given.times.trains;
         keep_most = keep_le _ _ _ _ costs book.given step.first step.along l run step.last;
         go_most = go_le _ _ _ _ costs book.given step.first step.along l run step.last;
-        long = step.long;
         range = step.range;
       }
 
@@ -163,33 +161,29 @@ module _ (B : Book) (c : Table) where
 
 -- ---- what the code asks of the walk
 
-module _ (book : Holder) (cells : List ℕ) where
+module _ (book : Holder) (t : Lent) where
   -- the station at which the walk stands can be stepped
   pub walk_asks : (decisions₀ delays₀ decisions delays : List ℕ) (costs : Costs) (first i : ℕ)
-      → WalkGiven book.m decisions₀ delays₀ cells
-      → Walking (book_held book) (table_of book.m cells) decisions delays costs first i → i ≤ book.m
-      → StepGiven (book_held book) first i costs cells
+      → WalkGiven decisions₀ delays₀ t → Walking (book_held book) (table_held t) decisions delays costs first i
+      → i ≤ book.m → StepGiven (book_held book) first i costs t
   walk_asks decisions₀ delays₀ decisions delays costs first i given w last =
-      let on = begins_le (choice (book_held book) (table_of book.m cells)) w.done w.some in
+      let on = begins_le (choice (book_held book) (table_held t)) w.done w.some in
       record {
         first = omega arith;
         run = omega arith;
         last = last;
         along = w.along;
-        long = given.long;
         range = given.range;
       }
 
   -- and its train arrives no later than any can
   pub walk_late : (k l : ℕ) (d : Decision) (f x : ℕ) (costs : Costs) → l ≤ book.m
-      → Stepped (book_held book) (table_of book.m cells) k l d f x costs → x ≤ latest
+      → Stepped (book_held book) (table_held t) k l d f x costs → x ≤ latest
   walk_late k l d f x costs last s =
       le_trans (le_of_eq s.late)
       (arrival_on_le book.m (running_in book.timing.now) (running_in_range book.m book.timing.now book.given.times) _ l
       last)
 
--- ---- what a step and the walk rest on, beside what is answered by hand
-
-pub ruleset stepping = (step_chooses, stepped_keep, kept_le)
+-- ---- what the walk rests on, beside what is answered by hand
 
 pub ruleset walking = (walk_start, walk_late, walk_next, begun)

@@ -9,7 +9,7 @@ use Rattle.std.specs.Prelude.{ℕ, ◌+◌, ◌≤◌, ◌<◌, ◌≡◌, List,
 use Rattle.line.specs.Policy.{Decision, Keep, Go}
 use Rattle.line.specs.Cells.{Table, Book, arrival_on, prefer, choice, under}
 use Rattle.line.specs.Ranges.{limit}
-use Rattle.cells.specs.Place.{cell_count}
+use Rattle.cells.specs.declared.place.Table.{Table as Lent}
 use Rattle.cells.specs.Limits.{CellsInRange}
 use Rattle.cells.specs.declared.costs.Costs.{Costs}
 use Rattle.cells.specs.Costs.{excess_in, keep_in, go_in, CostsAlong}
@@ -24,24 +24,21 @@ abbrev pub chosen_by : Costs → Table → ℕ → ℕ → Decision
 chosen_by costs c k l = prefer (excess_in costs l) (keep_in costs l + c k (l + 1)) (go_in costs l + c l l)
 
 -- costs and cells that can be added
-pub record ChoiceGiven (m k l : ℕ) (costs : Costs) (cells : List ℕ) : Type 0 where
-  pub trains : m ≤ 64
+pub record ChoiceGiven (k l : ℕ) (costs : Costs) (t : Lent) : Type 0 where
   pub first : 1 ≤ k
   pub run : k ≤ l
-  pub last : l ≤ m
+  pub last : l ≤ 64
   pub keep_most : keep_in costs l ≤ limit
   pub go_most : go_in costs l ≤ limit
-  pub long : length cells ≡ cell_count
-  pub range : CellsInRange m cells
+  pub range : CellsInRange t.m t.cells.now
 
 -- the walk stands at station l, on the run from k, whose costs are worked
-pub record StepGiven (B : Book) (k l : ℕ) (costs : Costs) (cells : List ℕ) : Type 0 where
+pub record StepGiven (B : Book) (k l : ℕ) (costs : Costs) (t : Lent) : Type 0 where
   pub first : 1 ≤ k
   pub run : k < l
   pub last : l ≤ B.trains
   pub along : CostsAlong B k costs
-  pub long : length cells ≡ cell_count
-  pub range : CellsInRange B.trains cells
+  pub range : CellsInRange t.m t.cells.now
 
 -- what the station decides, the train that the run then begins with, how late train l arrives, the costs of that run
 pub record Stepped (B : Book) (c : Table) (k l : ℕ) (d : Decision) (begins arrives : ℕ) (costs : Costs) : Type 0 where
@@ -50,8 +47,7 @@ pub record Stepped (B : Book) (c : Table) (k l : ℕ) (d : Decision) (begins arr
   pub late : arrives ≡ arrival_on B.running begins l
   pub along : CostsAlong B begins costs
 
-pub record WalkGiven (m : ℕ) (decisions delays cells : List ℕ) : Type 0 where
+pub record WalkGiven (decisions delays : List ℕ) (t : Lent) : Type 0 where
   pub long_decisions : length decisions ≡ 64
   pub long_delays : length delays ≡ 64
-  pub long : length cells ≡ cell_count
-  pub range : CellsInRange m cells
+  pub range : CellsInRange t.m t.cells.now

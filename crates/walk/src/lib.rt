@@ -3,8 +3,7 @@
 
 ghost use Rattle.std.specs.Prelude.{◌≡◌};
 ghost use Rattle.line.specs.Cells.{prefer};
-ghost use Rattle.cells.specs.Place.{table_of};
-ghost use Rattle.cells.specs.Held.{book_held};
+ghost use Rattle.cells.specs.Held.{book_held, table_held};
 ghost use Rattle.cells.specs.Shown.{byte_of};
 ghost use Rattle.walk.specs.Walked.{Walked};
 ghost use Rattle.walk.specs.Following.{decision_of, chosen_by};
@@ -12,7 +11,7 @@ ghost use Rattle.walk.specs.Following.{ChoiceGiven, StepGiven, Stepped, WalkGive
 
 use cells::book::Book;
 use cells::costs::Costs;
-use cells::place::cell_at;
+use cells::place::Table;
 use terms::Train;
 
 // What a station decides.
@@ -47,15 +46,15 @@ fn prefer(excess: u64, keep: u64, go: u64) -> Choice
 
 // The choice at the station that `train` leaves, on the run from `first`, whose costs these are.
 #[tactic(auto, using(cells::proofs::Bounded::cell_le))]
-fn choose(costs: &Costs, cells: &[u64], m: u32, first: Train, train: Train) -> Choice
-    requires { ChoiceGiven m first.0 train.0 costs.now cells.now }
-    ensures { decision_of result ≡ chosen_by costs.now (table_of m cells.now)
+fn choose(costs: &Costs, table: &Table, first: Train, train: Train) -> Choice
+    requires { ChoiceGiven first.0 train.0 costs.now table.now }
+    ensures { decision_of result ≡ chosen_by costs.now (table_held table.now)
         first.0 train.0 }
 {
     let station = train.leaves();
     let cost = costs.on(station);
-    let keep = cost.keep + cell_at(cells, m, first, train.reaches());
-    let go = cost.go + cell_at(cells, m, train, station);
+    let keep = cost.keep + table.cell_at(first, train.reaches());
+    let go = cost.go + table.cell_at(train, station);
     prefer(cost.excess, keep, go)
 }
 
@@ -70,14 +69,14 @@ struct Step {
 
 // The step of `train`, on the run from `first`. Where it goes, the costs are worked along the run
 // that begins with it.
-#[tactic(auto, using(crate::proofs::Walks::stepping))]
-fn decide_at(costs: &mut Costs, cells: &[u64], book: &Book, first: Train, train: Train) -> Step
-    requires { StepGiven (book_held book.now) first.0 train.0 costs.old cells.now }
-    ensures { Stepped (book_held book.now)
-        (table_of book.now.m cells.now) first.0 train.0 (decision_of result.choice)
-        result.first.0 result.late costs.new }
+#[tactic(auto, using(cells::proofs::Along::kept_le))]
+fn decide_at(costs: &mut Costs, table: &Table, book: &Book, first: Train, train: Train) -> Step
+    requires { StepGiven (book_held book.now) first.0 train.0 costs.old table.now }
+    ensures { Stepped (book_held book.now) (table_held table.now)
+        first.0 train.0 (decision_of result.choice) result.first.0 result.late
+        costs.new }
 {
-    let choice = choose(costs, cells, book.m, first, train);
+    let choice = choose(costs, table, first, train);
     match choice {
         Choice::Keep => {
             let excess = costs.on(train.leaves()).excess;
@@ -107,12 +106,12 @@ pub fn follow(
     decisions: &mut [u8],
     delays: &mut [u32],
     costs: &mut Costs,
-    cells: &[u64],
+    table: &Table,
     book: &Book,
 )
-    requires { WalkGiven book.now.m decisions.old delays.old cells.now }
-    ensures { Walked (book_held book.now)
-        (table_of book.now.m cells.now) decisions.new delays.new }
+    requires { WalkGiven decisions.old delays.old table.now }
+    ensures { Walked (book_held book.now) (table_held table.now)
+        decisions.new delays.new }
 {
     decisions.fill(0);
     delays.fill(0);
@@ -121,7 +120,7 @@ pub fn follow(
     delays[first.index()] = book.timing.arrives(first, 0) as u32;
     for i in 2..=book.m {
         let train = Train(i);
-        let step = decide_at(costs, cells, book, first, train);
+        let step = decide_at(costs, table, book, first, train);
         first = step.first;
         let k = train.index();
         decisions[k] = step.choice.byte();

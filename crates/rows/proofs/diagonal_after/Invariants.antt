@@ -3,10 +3,10 @@
 use Rattle.std.proofs.Common.{◌≡◌, ◌<◌, ◌≤◌, ℕ, length}
 use Rattle.lists.specs.Run.{nth}
 use Rattle.lists.proofs.Held.{Held}
-use Rattle.cells.specs.Place.{table_of}
+use Rattle.cells.specs.Held.{table_held}
 use Rattle.rows.proofs.diagonal_after.Given as goal
 
 abbrev pub invariant-loop-i : goal.invariant-loop-i
 invariant-loop-i l =
-    (length l.diagonal ≡ 64) × Held l.diagonal (λ t. table_of l.m l.cells t t) l.initial.i l.i
+    (length l.diagonal ≡ 64) × Held l.diagonal (λ t. table_held l.table t t) l.initial.i l.i
     × ((t : ℕ) → 1 ≤ t → t < l.initial.i → nth l.diagonal t ≡ nth l.initial.diagonal t)

@@ -5,7 +5,9 @@ use Rattle.rows.proofs.work_rows.Goals as goal
 
 -- no row is worked yet
 pub loop-i-init : goal.loop-i-init
-loop-i-init c = worked_start _ _ _ _ (omega arith) c.diagonal_after.ensures c.requires.later
+loop-i-init c =
+    let held = rw (c.new-table.ensures.m, c.new-table.ensures.cells) at c.diagonal_after.ensures in
+    worked_start _ _ _ _ (omega arith) held c.requires.later
 
 -- one row more
 pub loop-i-preserved : goal.loop-i-preserved

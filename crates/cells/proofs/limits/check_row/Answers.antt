@@ -7,12 +7,6 @@ use Rattle.cells.proofs.limits.check_row.Goals as goal
 pub loop-l-init : goal.loop-l-init
 loop-l-init c = rw c.leaves-l.ensures (search_first _ _ _)
 
--- the column lies in the row
-pub cell_at-requires : goal.cell_at-requires
-cell_at-requires c =
-    let start = c.requires in
-    (start.0, c.loop-l.invariant.least, start.2, start.3)
-
 -- a cell within the limit passes: the columns after it are still to be checked
 pub loop-l-preserved : goal.loop-l-preserved
 unfolding cell_verdict

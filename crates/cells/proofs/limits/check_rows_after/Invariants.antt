@@ -5,4 +5,5 @@ use Rattle.cells.specs.Limits.{row_verdict}
 use Rattle.cells.proofs.limits.check_rows_after.Given as goal
 
 abbrev pub invariant-loop-k : goal.invariant-loop-k
-invariant-loop-k l = Searching (row_verdict l.m l.cells) (l.fn.train.0 + 1) (l.m - l.fn.train.0) l.k
+invariant-loop-k l =
+    Searching (row_verdict l.table.m l.table.cells.now) (l.fn.train.0 + 1) (l.table.m - l.fn.train.0) l.k

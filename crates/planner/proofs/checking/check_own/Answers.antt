@@ -15,9 +15,7 @@ returns-in_err-check_reported c =
 pub check_rows_after-requires : goal.check_rows_after-requires
 unfolding report_checks
 check_rows_after-requires c =
-    let passed = passed_of_fine _ (sym c.check_reported.ensures ∙ c.in_ok-check_reported.was) in
-    let room = c.requires in
-    (passed.1.0, room.0, room.1)
+    (passed_of_fine _ (sym c.check_reported.ensures ∙ c.in_ok-check_reported.was)).1.0
 
 -- both pass: the rows decide
 pub returns : goal.returns

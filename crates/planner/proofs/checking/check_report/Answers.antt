@@ -17,8 +17,8 @@ returns-in_err-head c =
     prepared_same (then_stop _ _ refused refl ∙ then_assoc _ (sheet_verdict _) _) (sym same) checked
 
 -- the cells have their length, and the sheet has at most 64 trains
-pub check_own-requires : goal.check_own-requires
-check_own-requires c =
+pub new-table-requires : goal.new-table-requires
+new-table-requires c =
     let checked = c.prepare.ensures in
     let answer = c.in_ok-head.was in
     let both = then_fine _ (sheet_verdict _) (taken_fine checked answer) in
@@ -31,7 +31,8 @@ returns-in_err-check_own c =
     let same : c.from_residual-in_err-check_own.result ≡ Err c.in_err-check_own.field-0.0 = search rules in
     let checked = c.prepare.ensures in
     let answer = c.in_ok-head.was in
-    let refused = sym c.in_err-check_own.was ∙ rw (taken_trains checked answer) at c.check_own.ensures in
+    let own = rw (c.new-table.ensures.m, c.new-table.ensures.cells, taken_trains checked answer) at c.check_own.ensures in
+    let refused = sym c.in_err-check_own.was ∙ own in
     rw same
     (prepared_refused _ _ _ _ _
     (then_pass _ _ _ (taken_fine checked answer) refused ∙ then_assoc _ (sheet_verdict _) _))
@@ -41,5 +42,6 @@ pub returns : goal.returns
 returns c =
     let checked = c.prepare.ensures in
     let answer = c.in_ok-head.was in
-    let fine = sym (rw (taken_trains checked answer) at c.check_own.ensures) ∙ c.in_ok-check_own.was in
+    let own = rw (c.new-table.ensures.m, c.new-table.ensures.cells, taken_trains checked answer) at c.check_own.ensures in
+    let fine = sym own ∙ c.in_ok-check_own.was in
     prepared_same (then_nothing _ _ fine ∙ then_assoc _ (sheet_verdict _) _) answer checked
