@@ -17,11 +17,11 @@ returns-in_err-check_trains c =
 pub check_passengers-requires : goal.check_passengers-requires
 check_passengers-requires c =
     let room = c.requires in
-    omega (arith, c.pairs_of.ensures, room.passengers, pairs_le c.args.m room.trains.most)
+    omega (arith, c.new.ensures, rw c.new.ensures at c.pairs.ensures, room.passengers, pairs_le c.args.m room.trains.most)
 
 -- the trains pass: the passengers decide
 pub returns : goal.returns
 unfolding numbers_verdict
 returns c =
     then_pass _ _ _ (sym c.check_trains.ensures ∙ c.in_ok-check_trains.was)
-    (c.check_passengers.ensures ∙ ap (first_of (passengers_verdict _) 1) c.pairs_of.ensures)
+    (c.check_passengers.ensures ∙ ap (first_of (passengers_verdict _) 1) (rw c.new.ensures at c.pairs.ensures))
