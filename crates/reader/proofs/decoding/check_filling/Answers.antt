@@ -6,17 +6,17 @@ use Rattle.reader.proofs.decoding.check_filling.Goals as goal
 -- eight times the bytes of 64 trains is small
 pub overflow_mul-sheet : goal.overflow_mul-sheet
 overflow_mul-sheet c =
-    let b = bytes_bits c.args.m in
-    omega (arith, bits_le c.args.m c.requires.most, c.requires.long)
+    let b = bytes_bits c.args.layout.m in
+    omega (arith, bits_le c.args.layout.m c.args.layout.few, c.requires.long)
 
 -- the bits of the fields are no more than those of the bytes
 pub overflow_sub-sheet : goal.overflow_sub-sheet
 overflow_sub-sheet c =
-    let b = bytes_bits c.args.m in
-    omega (arith, c.requires.long, c.bits_of-n.ensures)
+    let b = bytes_bits c.args.layout.m in
+    omega (arith, c.requires.long, c.bits-n.ensures)
 
 -- what is left of the last byte is a field
 pub field-requires : goal.field-requires
 field-requires c =
-    let b = bytes_bits c.args.m in
-    omega (arith, bits_le c.args.m c.requires.most, c.requires.long, c.bits_of-n.ensures)
+    let b = bytes_bits c.args.layout.m in
+    omega (arith, bits_le c.args.layout.m c.args.layout.few, c.requires.long, c.bits-n.ensures)
