@@ -131,6 +131,7 @@ fn check_passengers(n: usize, passengers: &[u32]) -> Verdict
 }
 
 // All trains, then all passenger fields.
+#[tactic(auto, using(crate::proofs::Lengths::pairs_le))]
 pub fn check_numbers(m: u32, given: Lists) -> Verdict
     requires { Room m (lent given) }
     ensures { result ≡ numbers_verdict m (times_lent given.entry)

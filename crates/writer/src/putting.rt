@@ -47,6 +47,7 @@ fn put_times(sheet: &mut [u8], layout: Layout, numbers: Lists)
 }
 
 // Zeros behind the last field.
+#[tactic(auto, using(sheet::proofs::Lengths::bits_le, sheet::proofs::Lengths::bytes_bits, std::proofs::lemmas::Nat::pow_pos))]
 fn put_filling(sheet: &mut [u8], layout: Layout)
     requires { length sheet.old ≡ bytes_of layout.m }
     ensures { FillingPut layout.m sheet.old sheet.new }
