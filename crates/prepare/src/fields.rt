@@ -1,7 +1,7 @@
 // The passenger fields of a line, each in range.
 ghost use Rattle.prepare.specs.Preparing.{FieldsGiven};
 
-use sheet::format::field_of_pair;
+use sheet::layout::Layout;
 use terms::Station;
 
 // Those of a line of `m` trains.
@@ -32,6 +32,6 @@ impl<'a> Fields<'a> {
         ensures { (result ≡ pair_in self.now.m self.now.passengers.now from.0 to.0) ×
             (result ≤ 10000) }
     {
-        self.passengers[field_of_pair(self.m, from, to) - 1]
+        self.passengers[Layout::new(self.m).field_of_pair(from, to) - 1]
     }
 }

@@ -13,7 +13,7 @@ use Rattle.reader.specs.Decoded.{ColumnRoom, HeadRead, Body, ColumnsRead}
 
 -- ---- the sheet
 
-module _ (s : List ℕ) (m : ℕ) (h : HeadRead s m) where
+module _ (s : List ℕ) (m : ℕ) (most : m ≤ 64) (h : HeadRead s m) where
   -- the column of the trains whose first field is the w bits from bit a
   pub train_room : (a w size : ℕ) → a + w ≤ 51 → w ≤ 16 → size ≡ 64
       → ColumnRoom s (record { first = a; step = 33; width = w }) m size
@@ -21,8 +21,8 @@ module _ (s : List ℕ) (m : ℕ) (h : HeadRead s m) where
       let b = bytes_bits m in
       let l = h.long in
       record {
-        room = omega (arith, h.most);
-        within = λ k c. train_within s m a w k (omega (arith, layout m)) h.most end narrow c;
+        room = omega arith;
+        within = λ k c. train_within s m a w k (omega (arith, layout m)) most end narrow c;
       }
 
   -- the column of the passengers
@@ -31,23 +31,22 @@ module _ (s : List ℕ) (m : ℕ) (h : HeadRead s m) where
       let b = bytes_bits m in
       let l = h.long in
       record {
-        room = omega (arith, pairs_le m h.most);
-        within = λ k c. passengers_within s m k (omega arith) h.most c;
+        room = omega (arith, pairs_le m most);
+        within = λ k c. passengers_within s m k (omega arith) most c;
       }
 
 -- the lists have room for what the checks of m trains read
-pub body_room : (s : List ℕ) (m : ℕ) (L : Lists) → Body s m L → Lengths 64 2080 L → Room m L
-body_room s m L h long =
-    let n = h.head.most in
+pub body_room : (s : List ℕ) (m : ℕ) (L : Lists) → m ≤ 64 → Body s m L → Lengths 64 2080 L → Room m L
+body_room s m L most h long =
     record {
       trains = record {
         least = h.head.least;
-        most = n;
-        departures = rw long.departures n;
-        driving = rw long.driving n;
-        delays = rw long.delays n;
+        most = most;
+        departures = rw long.departures most;
+        driving = rw long.driving most;
+        delays = rw long.delays most;
       };
-      passengers = rw long.passengers (pairs_le m n);
+      passengers = rw long.passengers (pairs_le m most);
     }
 
 -- ---- the lists

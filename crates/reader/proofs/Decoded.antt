@@ -1,6 +1,6 @@
 -- What a sheet taken apart leaves, for those who call `decode`; and that its promise leaves nothing open.
 -- Assumes nothing.
-use Rattle.std.proofs.Common.{◌≡◌, refl, sym, ap, ◌∙◌, List, inl, inr, ℕ, arith}
+use Rattle.std.proofs.Common.{◌≡◌, refl, sym, ap, ◌∙◌, List, inl, inr, ℕ, ◌≤◌, arith}
 use Rattle.terms.specs.declared.Refusal.{Refusal}
 use Rattle.std.specs.Prelude.{Err}
 use Rattle.terms.specs.Verdict.{Fine}
@@ -74,13 +74,16 @@ module _ (s : List ℕ) (before : Lists) {a : Reading} where
         kept = λ q refused. refused_not_fine (sym refused ∙ fine);
       }
 
--- a head that passed has the length that m demands
+-- a head that passed has at most 64 trains
+pub trains_of_fine : (s : List ℕ) (m : ℕ) → head_verdict s ≡ Fine → m ≡ trains_of s → m ≤ 64
+trains_of_fine s m fine e = let h = headed_of_fine s fine in omega (arith, e, h.ranges.trains_most)
+
+-- and the length that m demands
 pub head_of_fine : (s : List ℕ) (m : ℕ) → head_verdict s ≡ Fine → m ≡ trains_of s → HeadRead s m
 head_of_fine s m fine e =
     let h = headed_of_fine s fine in
     record {
       trains = e;
       least = omega (arith, e, h.ranges.trains_least);
-      most = omega (arith, e, h.ranges.trains_most);
       long = h.long ∙ ap bytes_of (sym e);
     }

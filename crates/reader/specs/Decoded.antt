@@ -27,7 +27,6 @@ pub record ColumnRoom (s : List ℕ) (c : Column) (n size : ℕ) : Type 0 where
 pub record HeadRead (s : List ℕ) (m : ℕ) : Type 0 where
   pub trains : m ≡ trains_of s
   pub least : 1 ≤ m
-  pub most : m ≤ 64
   pub long : length s ≡ bytes_of m
 
 -- behind such a head, the numbers of the sheet stand in the lists

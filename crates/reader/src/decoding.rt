@@ -11,9 +11,8 @@ ghost use Rattle.reader.specs.Decoded.{ColumnRoom, HeadRead, ColumnsRead, Body, 
 use crate::Reading;
 use bits::field;
 use sheet::checks::{check_numbers, check_ranges};
-use sheet::format::{
-    Column, PERIOD_AT, PERIOD_WIDTH, TRAINS_AT, TRAINS_WIDTH, bits_of, bytes_of, pairs_of,
-};
+use sheet::format::{Column, PERIOD_AT, PERIOD_WIDTH, TRAINS_AT, TRAINS_WIDTH};
+use sheet::layout::Layout;
 use sheet::numbers::Columns;
 use terms::{Head, HeadFault, Refusal, Verdict};
 
@@ -29,7 +28,7 @@ fn read_head(sheet: &[u8]) -> Reading
     let period = field(sheet, PERIOD_AT, PERIOD_WIDTH);
     let claimed = Head { trains, period };
     check_ranges(claimed)?;
-    let n = bytes_of(trains as usize);
+    let n = Layout::new(trains).bytes();
     if sheet.len() < n {
         return Err(Refusal::OfHead(HeadFault::TooShort));
     }
@@ -52,28 +51,29 @@ fn read_column(list: &mut [u32], sheet: &[u8], column: Column, n: usize)
 }
 
 // Every field behind the head.
-fn read_columns(sheet: &[u8], m: usize, columns: &mut Columns)
-    requires { HeadRead sheet.now m }
+fn read_columns(sheet: &[u8], layout: Layout, columns: &mut Columns)
+    requires { HeadRead sheet.now layout.m }
     ensures { ColumnsRead sheet.now (held columns.old) (held columns.new) }
 {
-    read_column(&mut columns.departures, sheet, Column::departures(), m);
-    read_column(&mut columns.driving, sheet, Column::driving(), m);
-    read_column(&mut columns.delays, sheet, Column::delays(), m);
+    let n = layout.m as usize;
+    read_column(&mut columns.departures, sheet, Column::departures(), n);
+    read_column(&mut columns.driving, sheet, Column::driving(), n);
+    read_column(&mut columns.delays, sheet, Column::delays(), n);
     read_column(
         &mut columns.passengers,
         sheet,
-        Column::passengers(m),
-        pairs_of(m),
+        layout.passengers(),
+        layout.pairs(),
     );
 }
 
 // The filling bits.
-#[tactic(auto, unfolding(sheet::specs::Checks::filling_verdict, sheet::specs::Format::filling_of, terms::specs::Verdict::verdict_of, lists::specs::Choice::if_below))]
-fn check_filling(sheet: &[u8], m: usize) -> Verdict
-    requires { HeadRead sheet.now m }
+#[tactic(auto, using(sheet::proofs::Lengths::bits_le, sheet::proofs::Lengths::bytes_bits), unfolding(sheet::specs::Checks::filling_verdict, sheet::specs::Format::filling_of, terms::specs::Verdict::verdict_of, lists::specs::Choice::if_below))]
+fn check_filling(sheet: &[u8], layout: Layout) -> Verdict
+    requires { HeadRead sheet.now layout.m }
     ensures { result ≡ filling_verdict sheet.now }
 {
-    let n = bits_of(m);
+    let n = layout.bits();
     if 0 < field(sheet, n, 8 * sheet.len() - n) {
         return Err(Refusal::Filling);
     }
@@ -81,12 +81,12 @@ fn check_filling(sheet: &[u8], m: usize) -> Verdict
 }
 
 // The numbers of the sheet, which stand in the lists, then its filling bits.
-fn check_body(sheet: &[u8], m: u32, columns: &Columns) -> Verdict
-    requires { Body sheet.now m (held columns.now) }
+fn check_body(sheet: &[u8], layout: Layout, columns: &Columns) -> Verdict
+    requires { Body sheet.now layout.m (held columns.now) }
     ensures { result ≡ body_verdict sheet.now }
 {
-    check_numbers(m, columns.lists())?;
-    check_filling(sheet, m as usize)
+    check_numbers(layout.m, columns.lists())?;
+    check_filling(sheet, layout)
 }
 
 // A sheet taken apart, each field read once. A head that is refused leaves the lists as they were;
@@ -95,7 +95,8 @@ pub fn decode(sheet: &[u8], columns: &mut Columns) -> Reading
     ensures { Decoded sheet.now (held columns.old) (held columns.new) result }
 {
     let head = read_head(sheet)?;
-    read_columns(sheet, head.trains as usize, columns);
-    check_body(sheet, head.trains, columns)?;
+    let layout = Layout::new(head.trains);
+    read_columns(sheet, layout, columns);
+    check_body(sheet, layout, columns)?;
     Ok(head)
 }

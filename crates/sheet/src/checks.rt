@@ -9,7 +9,7 @@ ghost use Rattle.sheet.specs.Checks.{lengths_verdict, ranges_verdict, earliest_o
 ghost use Rattle.sheet.specs.Checks.{train_verdict, passengers_verdict, numbers_verdict};
 ghost use Rattle.sheet.specs.Checks.{TrainRoom, Room};
 
-use crate::format::pairs_of;
+use crate::layout::Layout;
 use crate::numbers::Lists;
 use terms::{Head, HeadFault, Refusal, Train, TrainFault, Verdict};
 
@@ -131,11 +131,12 @@ fn check_passengers(n: usize, passengers: &[u32]) -> Verdict
 }
 
 // All trains, then all passenger fields.
+#[tactic(auto, using(crate::proofs::Lengths::pairs_le))]
 pub fn check_numbers(m: u32, given: Lists) -> Verdict
     requires { Room m (lent given) }
     ensures { result ≡ numbers_verdict m (times_lent given.entry)
         (nth given.entry.passengers.now) }
 {
     check_trains(m, given)?;
-    check_passengers(pairs_of(m as usize), given.passengers)
+    check_passengers(Layout::new(m).pairs(), given.passengers)
 }

@@ -4,4 +4,5 @@
 
 pub mod checks;
 pub mod format;
+pub mod layout;
 pub mod numbers;

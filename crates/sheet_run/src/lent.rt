@@ -3,7 +3,7 @@ ghost use Rattle.std.specs.Prelude.{◌≡◌, ◌≤◌, take};
 ghost use Rattle.sheet.specs.Format.{pairs_of};
 
 use records::source::short;
-use sheet::format::pairs_of;
+use sheet::layout::Layout;
 use sheet::numbers::Lists;
 use std::io;
 use std::io::Read;
@@ -33,15 +33,16 @@ impl Lengths {
     }
 
     // Those of m trains, of which read never answers more than 64.
-    pub fn of_trains(m: usize) -> Lengths
+    pub fn of_trains(m: u32) -> Lengths
         ensures trains { (result.departures ≡ m) × (result.driving ≡ m) × (result.delays ≡ m) }
         ensures passengers { m ≤ 64 → result.passengers ≡ pairs_of m }
     {
+        let n = m as usize;
         Lengths {
-            departures: m,
-            driving: m,
-            delays: m,
-            passengers: if m <= 64 { pairs_of(m) } else { 0 },
+            departures: n,
+            driving: n,
+            delays: n,
+            passengers: if m <= 64 { Layout::new(m).pairs() } else { 0 },
         }
     }
 }

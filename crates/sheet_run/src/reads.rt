@@ -32,7 +32,7 @@ fn show<W: Write>(out: &mut W, answer: Reading, lists: Lists) -> io::Result<()> 
 fn back<W: Write>(out: &mut W, answer: Reading, lists: Lists) -> io::Result<()> {
     if let Ok(head) = answer {
         let mut buffer = [BEFORE; 3907];
-        let lists = front(lists, Lengths::of_trains(head.trains as usize));
+        let lists = front(lists, Lengths::of_trains(head.trains));
         writes::show(out, "back", head, lists, &mut buffer)?;
     }
     Ok(())

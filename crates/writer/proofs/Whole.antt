@@ -15,14 +15,14 @@ use Rattle.writer.specs.Putting.{PutRoom, ColumnPut, HeadRoom, HeadPut, TimesRoo
 
 -- ---- what the steps need
 
-module _ (s t : List ℕ) (m : ℕ) (d r y : List ℕ) (h : TimesRoom s m d r y) (same : length t ≡ length s) where
+module _ (s t : List ℕ) (m : ℕ) (d r y : List ℕ) (most : m ≤ 64) (h : TimesRoom s m d r y)
+    (same : length t ≡ length s) where
   -- a column of the trains, `a` bits from the sheet's start and w bits wide
   train_column : (l : List ℕ) (a w : ℕ) → m ≤ length l → (18 ≤ a) × (a + w ≤ 51) × (w ≤ 16)
       → ((i : ℕ) → 1 ≤ i → i ≤ m → get_or l (i - 1) 0 < 2 ^ w)
       → PutRoom t (record { first = a; step = 33; width = w }) m l
   train_column l a w long b small =
       let room = h.room in
-      let most = h.most in
       record {
         listed = long;
         spaced = omega arith;
@@ -57,7 +57,6 @@ module _ (G : Given) (s t : List ℕ) (h : Writable G s) (same : length t ≡ le
       let l = h.long in
       record {
         room = omega (arith, layout G.trains);
-        most = h.range.trains_most;
         departures = omega (arith, h.lengths.departures);
         driving = omega (arith, h.lengths.driving);
         delays = omega (arith, h.lengths.delays);

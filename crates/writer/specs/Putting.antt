@@ -43,7 +43,6 @@ pub record HeadPut (s : List ℕ) (m T : ℕ) (t : List ℕ) : Type 0 where
 -- the times of trains 1 to m stand in the lists d, r and y, fit their fields, and the sheet has room for them
 pub record TimesRoom (s : List ℕ) (m : ℕ) (d r y : List ℕ) : Type 0 where
   pub room : 18 + 33 * m ≤ 8 * length s
-  pub most : m ≤ 64
   pub departures : m ≤ length d
   pub driving : m ≤ length r
   pub delays : m ≤ length y

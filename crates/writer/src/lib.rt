@@ -10,7 +10,7 @@ ghost use Rattle.writer.specs.Write.{given, write_verdict, Write};
 
 use crate::putting::put_sheet;
 use sheet::checks::{check_lengths, check_numbers, check_ranges};
-use sheet::format::{bytes_of, pairs_of};
+use sheet::layout::Layout;
 use sheet::numbers::Lists;
 use terms::{Answer, Head, ListFault, Refusal, Verdict};
 
@@ -24,7 +24,7 @@ fn check_write(room: usize, head: Head, numbers: Lists) -> Verdict
     }
     check_ranges(head)?;
     let n = head.trains as usize;
-    let pairs = pairs_of(n);
+    let pairs = Layout::new(head.trains).pairs();
     check_lengths(Refusal::OfList(ListFault::ListLength), n, pairs, numbers)?;
     check_numbers(head.trains, numbers)
 }
@@ -35,7 +35,7 @@ pub fn write(head: Head, numbers: Lists, sheet: &mut [u8]) -> Answer
         sheet.old sheet.new result }
 {
     check_write(sheet.len(), head, numbers)?;
-    let n = bytes_of(head.trains as usize);
+    let n = Layout::new(head.trains).bytes();
     put_sheet(&mut sheet[..n], head, numbers);
     Ok(n as u64)
 }

@@ -1,5 +1,5 @@
 // The sheet put together: m and T, column by column, zeros behind the last field.
-ghost use Rattle.std.specs.Prelude.{◌≡◌, ◌≤◌, length};
+ghost use Rattle.std.specs.Prelude.{◌≡◌, length};
 ghost use Rattle.sheet.specs.Format.{bytes_of};
 ghost use Rattle.sheet.specs.Held.{lent};
 ghost use Rattle.sheet.specs.Accepted.{SheetOf};
@@ -8,7 +8,8 @@ ghost use Rattle.writer.specs.Putting.{PutRoom, ColumnPut, HeadRoom, HeadPut, Ti
 ghost use Rattle.writer.specs.Putting.{TimesPut, FillingPut, Writable};
 
 use bits::put;
-use sheet::format::{Column, PERIOD_AT, PERIOD_WIDTH, TRAINS_AT, TRAINS_WIDTH, bits_of};
+use sheet::format::{Column, PERIOD_AT, PERIOD_WIDTH, TRAINS_AT, TRAINS_WIDTH};
+use sheet::layout::Layout;
 use sheet::numbers::Lists;
 use terms::Head;
 
@@ -32,24 +33,26 @@ fn put_head(sheet: &mut [u8], head: Head)
     put(sheet, PERIOD_AT, PERIOD_WIDTH, head.period);
 }
 
-// The times of trains 1 to `m`, column by column.
-fn put_times(sheet: &mut [u8], m: u32, numbers: Lists)
-    requires { TimesRoom sheet.old m numbers.departures.now numbers.driving.now numbers.delays.now }
-    ensures { TimesPut sheet.old m numbers.entry.departures.now
+// The times of the trains, column by column.
+fn put_times(sheet: &mut [u8], layout: Layout, numbers: Lists)
+    requires { TimesRoom sheet.old layout.m numbers.departures.now numbers.driving.now
+        numbers.delays.now }
+    ensures { TimesPut sheet.old layout.m numbers.entry.departures.now
         numbers.entry.driving.now numbers.entry.delays.now sheet.new }
 {
-    let n = m as usize;
+    let n = layout.m as usize;
     put_column(sheet, Column::departures(), n, numbers.departures);
     put_column(sheet, Column::driving(), n, numbers.driving);
     put_column(sheet, Column::delays(), n, numbers.delays);
 }
 
 // Zeros behind the last field.
-fn put_filling(sheet: &mut [u8], m: u32)
-    requires { (m ≤ 64) × (length sheet.old ≡ bytes_of m) }
-    ensures { FillingPut m sheet.old sheet.new }
+#[tactic(auto, using(sheet::proofs::Lengths::bits_le, sheet::proofs::Lengths::bytes_bits, std::proofs::lemmas::Nat::pow_pos))]
+fn put_filling(sheet: &mut [u8], layout: Layout)
+    requires { length sheet.old ≡ bytes_of layout.m }
+    ensures { FillingPut layout.m sheet.old sheet.new }
 {
-    let n = bits_of(m as usize);
+    let n = layout.bits();
     put(sheet, n, 8 * sheet.len() - n, 0);
 }
 
@@ -58,13 +61,14 @@ pub fn put_sheet(sheet: &mut [u8], head: Head, numbers: Lists)
     requires { Writable (given head.trains head.period (lent numbers)) sheet.old }
     ensures { SheetOf (numbers_given (given head.trains head.period (lent numbers.entry))) sheet.new }
 {
+    let layout = Layout::new(head.trains);
     put_head(sheet, head);
-    put_times(sheet, head.trains, numbers);
+    put_times(sheet, layout, numbers);
     put_column(
         sheet,
-        Column::passengers(head.trains as usize),
+        layout.passengers(),
         numbers.passengers.len(),
         numbers.passengers,
     );
-    put_filling(sheet, head.trains);
+    put_filling(sheet, layout);
 }

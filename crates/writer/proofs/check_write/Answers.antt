@@ -23,7 +23,7 @@ lengths_are : (c : After-check_lengths) →
     c.check_lengths.result ≡ lengths_verdict (OfList ListLength) m (pairs_of m) (lent c.args.numbers)
 lengths_are c =
     c.check_lengths.ensures
-    ∙ ap (λ (k : ℕ). lengths_verdict (OfList ListLength) c.args.head.trains k (lent c.args.numbers)) c.pairs_of-pairs.ensures
+    ∙ ap (λ (k : ℕ). lengths_verdict (OfList ListLength) c.args.head.trains k (lent c.args.numbers)) (rw c.new.ensures at c.pairs-pairs.ensures)
 
 -- the output buffer has another length
 pub returns-then-room-ne3907 : goal.returns-then-room-ne3907
@@ -39,9 +39,9 @@ returns-in_err-check_ranges c =
     (then_pass _ _ _ (fine_of_passed _ (omega arith, tt))
     (then_stop _ _ c.in_err-check_ranges.was c.check_ranges.ensures))
 
-pub pairs_of-pairs-requires : goal.pairs_of-pairs-requires
-pairs_of-pairs-requires c =
-    (ranges_of_fine _ _ (right_ranges (goal.at.pairs_of-pairs-requires c).In_ok-check_ranges)).trains_most
+pub new-requires : goal.new-requires
+new-requires c =
+    (ranges_of_fine _ _ (right_ranges (goal.at.new-requires c).In_ok-check_ranges)).trains_most
 
 -- a list has another length
 pub returns-in_err-check_lengths : goal.returns-in_err-check_lengths

@@ -6,7 +6,7 @@ use Rattle.sheet.specs.Checks.{head_verdict}
 use Rattle.terms.proofs.Answers.{answer_refused}
 use Rattle.reader.proofs.ReadingOf.{reading_accepted, accepted_reading}
 use Rattle.reader.proofs.Columns.{columns_numbers}
-use Rattle.reader.proofs.Decoded.{decoded_head_refused, decoded_body, head_of_fine}
+use Rattle.reader.proofs.Decoded.{decoded_head_refused, decoded_body, head_of_fine, trains_of_fine}
 use Rattle.reader.proofs.decoding.decode.Goals as goal
 use Rattle.reader.proofs.decoding.decode.Goals.{In_ok-head}
 
@@ -23,20 +23,27 @@ returns-in_err-head c =
     let same : c.from_residual.result ≡ c.read_head.result = search rules in
     rw same (decoded_head_refused _ _ c.in_err-head.was c.read_head.ensures)
 
--- the head passed, and the lists are those that were lent
+-- the head passed
+pub new-layout-requires : goal.new-layout-requires
+new-layout-requires c =
+    let told = passed (goal.at.new-layout-requires c).In_ok-head in
+    trains_of_fine _ _ told.0 told.1
+
+-- the lists are those that were lent
 pub read_columns-requires : goal.read_columns-requires
 read_columns-requires c =
     let told = passed (goal.at.read_columns-requires c).In_ok-head in
-    head_of_fine _ _ told.0 told.1
+    head_of_fine _ _ told.0 (c.new-layout.ensures ∙ told.1)
 
 -- the columns hold the sheet's numbers
 pub check_body-requires : goal.check_body-requires
 check_body-requires c =
     let told = passed (goal.at.check_body-requires c).In_ok-head in
     let read = c.read_columns.ensures in
+    let trains = c.new-layout.ensures ∙ told.1 in
     record {
-      head = head_of_fine _ _ told.0 told.1;
-      numbers = columns_numbers _ _ _ read _ _ told.1 refl;
+      head = head_of_fine _ _ told.0 trains;
+      numbers = columns_numbers _ _ _ read _ _ trains refl;
     }
 
 -- the body is refused

@@ -8,7 +8,7 @@ use Rattle.sheet.proofs.Facts.{ranges_of_fine}
 use Rattle.terms.proofs.Answers.{answer_refused}
 use Rattle.reader.proofs.ReadingOf.{reading_accepted}
 use Rattle.reader.proofs.decoding.read_head.Goals as goal
-use Rattle.reader.proofs.decoding.read_head.Goals.{After-bytes_of-n, After-check_ranges, In_ok-check_ranges}
+use Rattle.reader.proofs.decoding.read_head.Goals.{After-bytes-n, After-check_ranges, In_ok-check_ranges}
 
 -- what is said of m and T is said of the sheet's
 ranges : (c : After-check_ranges) →
@@ -25,9 +25,9 @@ passed c =
     sym (c.check_ranges.ensures ∙ ap₂ ranges_verdict c.field-trains.ensures c.field-period.ensures) ∙ c.in_ok-check_ranges.was
 
 -- the length that m demands
-demanded : (c : After-bytes_of-n) →
-    c.bytes_of-n.result ≡ bytes_of (trains_of c.args.sheet.now)
-demanded c = c.bytes_of-n.ensures ∙ ap bytes_of c.field-trains.ensures
+demanded : (c : After-bytes-n) →
+    c.bytes-n.result ≡ bytes_of (trains_of c.args.sheet.now)
+demanded c = c.bytes-n.ensures ∙ ap bytes_of (c.new.ensures ∙ c.field-trains.ensures)
 
 -- the sheet is under 3 bytes
 pub returns-then-sheet-lt3 : goal.returns-then-sheet-lt3
@@ -45,11 +45,11 @@ returns-in_err-check_ranges c =
     (then_stop _ _ refl
     (sym c.in_err-check_ranges.was ∙ ranges (goal.at.returns-in_err-check_ranges c).After-check_ranges))))
 
-pub bytes_of-n-requires : goal.bytes_of-n-requires
-bytes_of-n-requires c =
+pub new-requires : goal.new-requires
+new-requires c =
     omega (
       arith,
-      (ranges_of_fine _ _ (passed (goal.at.bytes_of-n-requires c).In_ok-check_ranges)).trains_most,
+      (ranges_of_fine _ _ (passed (goal.at.new-requires c).In_ok-check_ranges)).trains_most,
       c.field-trains.ensures,
     )
 
@@ -57,7 +57,7 @@ bytes_of-n-requires c =
 pub returns-then-sheet-n : goal.returns-then-sheet-n
 unfolding head_verdict
 returns-then-sheet-n c =
-    let e = demanded (goal.at.returns-then-sheet-n c).After-bytes_of-n in
+    let e = demanded (goal.at.returns-then-sheet-n c).After-bytes-n in
     answer_refused _ _
     (then_pass _ _ _ (fine_of_passed _ (omega arith, tt))
     (then_pass _ _ _ (passed (goal.at.returns-then-sheet-n c).In_ok-check_ranges)
@@ -67,7 +67,7 @@ returns-then-sheet-n c =
 pub returns-then-n-sheet : goal.returns-then-n-sheet
 unfolding head_verdict
 returns-then-n-sheet c =
-    let e = demanded (goal.at.returns-then-n-sheet c).After-bytes_of-n in
+    let e = demanded (goal.at.returns-then-n-sheet c).After-bytes-n in
     answer_refused _ _
     (then_pass _ _ _ (fine_of_passed _ (omega arith, tt))
     (then_pass _ _ _ (passed (goal.at.returns-then-n-sheet c).In_ok-check_ranges)
@@ -78,7 +78,7 @@ returns-then-n-sheet c =
 pub returns : goal.returns
 unfolding head_verdict
 returns c =
-    let e = demanded (goal.at.returns c).After-bytes_of-n in
+    let e = demanded (goal.at.returns c).After-bytes-n in
     reading_accepted _
     (then_pass _ _ _ (fine_of_passed _ (omega arith, tt))
     (then_pass _ _ _ (passed (goal.at.returns c).In_ok-check_ranges)
