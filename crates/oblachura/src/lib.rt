@@ -16,7 +16,7 @@ use crate::telling::{ANSWER, READ_ANSWER, tell_answer, tell_reading, wrong_list}
 use planner::{plan, report};
 use reader::read;
 use sheet::numbers::Lists;
-use terms::{Head, Train};
+use terms::{Delay, Head, Train};
 use writer::write;
 
 // Reads a sheet into the lent lists; the answer is number, place, m and T.
@@ -114,8 +114,9 @@ pub fn oblachura_report(
     if answer.len() != ANSWER {
         return wrong_list();
     }
-    tell_answer(
-        report(sheet, Train(train), delay, cells, decisions, delays),
-        answer,
-    )
+    let delay = Delay {
+        train: Train(train),
+        minutes: delay,
+    };
+    tell_answer(report(sheet, delay, cells, decisions, delays), answer)
 }

@@ -14,7 +14,7 @@ use terms::{Answer, Train};
 #[derive(Clone, Copy)]
 enum Call {
     Plan,
-    Report { train: Train, delay: u32 },
+    Report(Delay),
 }
 
 impl Call {
@@ -35,7 +35,7 @@ impl Call {
     ) -> Answer {
         match self {
             Call::Plan => planner::plan(sheet, cells, decisions, delays),
-            Call::Report { train, delay } => {
+            Call::Report(delay) => {
                 planner::report(sheet, train, delay, cells, decisions, delays)
             }
         }

@@ -14,7 +14,7 @@ use cells::place::{CELLS, Table};
 use cells::tables::Tables;
 use prepare::prepare;
 use reader::Reading;
-use terms::{ListFault, Refusal, ReportFault, Train, Verdict};
+use terms::{Delay, ListFault, Refusal, ReportFault, Verdict};
 
 // The lengths of the lent buffers.
 #[tactic(auto, unfolding(crate::specs::Buffers::buffer_lengths_verdict, terms::specs::Verdict::verdict_of, lists::specs::Choice::if_same))]
@@ -35,28 +35,28 @@ pub fn check_buffers(cells: usize, decisions: usize, delays: usize) -> Verdict
 
 // The train and its new delay.
 #[tactic(auto, unfolding(crate::specs::ReportChecks::report_checks, terms::specs::Verdict::verdict_of, lists::specs::Choice::if_below))]
-fn check_reported(m: u32, train: Train, delay: u32) -> Verdict
-    ensures { result ≡ verdict_of (report_checks m train.0 delay) }
+fn check_reported(m: u32, delay: Delay) -> Verdict
+    ensures { result ≡ verdict_of (report_checks m delay.train.0 delay.minutes) }
 {
-    if train.0 < 1 {
+    if delay.train.0 < 1 {
         return Err(Refusal::OfReport(ReportFault::NoSuchTrain));
     }
-    if m < train.0 {
+    if m < delay.train.0 {
         return Err(Refusal::OfReport(ReportFault::NoSuchTrain));
     }
-    if 1440 < delay {
-        return Err(Refusal::OfReport(ReportFault::NewDelay(train)));
+    if 1440 < delay.minutes {
+        return Err(Refusal::OfReport(ReportFault::NewDelay(delay.train)));
     }
     Ok(())
 }
 
 // The train and its new delay, then the rows after it.
-fn check_own(table: &Table, train: Train, delay: u32) -> Verdict
-    ensures { result ≡ own_verdict table.now.m train.0 delay
+fn check_own(table: &Table, delay: Delay) -> Verdict
+    ensures { result ≡ own_verdict table.now.m delay.train.0 delay.minutes
         table.now.cells.now }
 {
-    check_reported(table.m, train, delay)?;
-    check_rows_after(table, train)
+    check_reported(table.m, delay)?;
+    check_rows_after(table, delay.train)
 }
 
 // The sheet, whose times and sums are prepared, then the report's own; `earlier` is what the
@@ -64,20 +64,19 @@ fn check_own(table: &Table, train: Train, delay: u32) -> Verdict
 pub fn check_report(
     earlier: Verdict,
     sheet: &[u8],
-    train: Train,
-    delay: u32,
+    delay: Delay,
     cells: &[u64],
     tables: &mut Tables,
 ) -> Reading
     requires { earlier ≡ Fine → length cells.now ≡ cell_count }
     ensures { Prepared
         (earlier and_then sheet_verdict sheet.now
-        and_then own_verdict (trains_of sheet.now) train.0 delay
+        and_then own_verdict (trains_of sheet.now) delay.train.0 delay.minutes
         cells.now)
         sheet.now tables.new.timing tables.new.sums result }
 {
     let head = prepare(earlier, sheet, tables)?;
     let table = Table::new(head.trains, cells);
-    check_own(&table, train, delay)?;
+    check_own(&table, delay)?;
     Ok(head)
 }

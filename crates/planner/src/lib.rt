@@ -23,7 +23,7 @@ use cells::tables::Tables;
 use cells::timing::Timing;
 use prepare::prepare;
 use sheet::format::Column;
-use terms::{Answer, Refusal, Train};
+use terms::{Answer, Delay, Refusal, Train};
 
 // A blanked decision byte: neither keep nor go.
 const BLANK: u8 = 2;
@@ -65,25 +65,25 @@ pub fn plan(sheet: &[u8], cells: &mut [u64], decisions: &mut [u8], delays: &mut 
     }
 }
 
-// The field of the train's source delay becomes `delay`.
-fn put_delay(sheet: &mut [u8], train: Train, delay: u32)
-    requires { DelayRoom sheet.old train.0 delay }
-    ensures { DelayReplaced sheet.old train.0 delay sheet.new }
+// The field of the train's source delay takes the new one.
+fn put_delay(sheet: &mut [u8], delay: Delay)
+    requires { DelayRoom sheet.old delay.train.0 delay.minutes }
+    ensures { DelayReplaced sheet.old delay.train.0 delay.minutes sheet.new }
 {
     let column = Column::delays();
-    let k = train.index();
-    put(sheet, column.first + column.step * k, column.width, delay);
+    let k = delay.train.index();
+    put(sheet, column.first + column.step * k, column.width, delay.minutes);
 }
 
 // Sheet and times take the train's new source delay.
-fn replace_delay(sheet: &mut [u8], timing: &mut Timing, train: Train, delay: u32)
-    requires { DelayRoom sheet.old train.0 delay × (train.0 ≤ 64) }
-    ensures sheet { DelayReplaced sheet.old train.0 delay sheet.new }
-    ensures times { timing.new ≡ with_source timing.old train.0 delay }
-    ensures here { source_in timing.new train.0 ≡ delay }
+fn replace_delay(sheet: &mut [u8], timing: &mut Timing, delay: Delay)
+    requires { DelayRoom sheet.old delay.train.0 delay.minutes × (delay.train.0 ≤ 64) }
+    ensures sheet { DelayReplaced sheet.old delay.train.0 delay.minutes sheet.new }
+    ensures times { timing.new ≡ with_source timing.old delay.train.0 delay.minutes }
+    ensures here { source_in timing.new delay.train.0 ≡ delay.minutes }
 {
-    put_delay(sheet, train, delay);
-    timing.set_source(train, delay);
+    put_delay(sheet, delay);
+    timing.set_source(delay.train, delay.minutes);
 }
 
 // Takes a new source delay of one train: puts it into the sheet, and works anew the rows of that
@@ -92,13 +92,12 @@ fn replace_delay(sheet: &mut [u8], timing: &mut Timing, train: Train, delay: u32
 // blanks as in plan.
 pub fn report(
     sheet: &mut [u8],
-    train: Train,
-    delay: u32,
+    delay: Delay,
     cells: &mut [u64],
     decisions: &mut [u8],
     delays: &mut [u32],
 ) -> Answer
-    ensures { Report sheet.old train.0 delay
+    ensures { Report sheet.old delay.train.0 delay.minutes
         (buffers cells.old decisions.old delays.old)
         sheet.new
         (buffers cells.new decisions.new delays.new)
@@ -106,12 +105,12 @@ pub fn report(
 {
     let lengths = check_buffers(cells.len(), decisions.len(), delays.len());
     let mut tables = Tables::zeros();
-    match check_report(lengths, sheet, train, delay, cells, &mut tables) {
+    match check_report(lengths, sheet, delay, cells, &mut tables) {
         Err(refusal) => refuse(refusal, decisions, delays),
         Ok(head) => {
-            replace_delay(sheet, &mut tables.timing, train, delay);
+            replace_delay(sheet, &mut tables.timing, delay);
             let m = head.trains;
-            Ok(settle(m, train, cells, decisions, delays, &tables))
+            Ok(settle(m, delay.train, cells, decisions, delays, &tables))
         }
     }
 }

@@ -55,6 +55,13 @@ impl Station {
     }
 }
 
+// A train's new source delay, as a report brings it; any train and any minutes.
+#[derive(Clone, Copy)]
+pub struct Delay {
+    pub train: Train,
+    pub minutes: u32,
+}
+
 // What is wrong with a lent list.
 #[derive(Clone, Copy)]
 pub enum ListFault {

@@ -19,7 +19,7 @@ use Rattle.planner.proofs.report.Goals.{In-Ok}
 passed : (c : In-Ok) →
     let start = c.args in
     RightLengths (buffers c.args.cells.now c.args.decisions.now c.args.delays.now) × AcceptedSheet start.sheet.now
-    × Reportable (trains_of start.sheet.now) start.train.0 start.delay start.cells.now
+    × Reportable (trains_of start.sheet.now) start.delay.train.0 start.delay.minutes start.cells.now
 unfolding report_verdict
 passed c =
     accepted_of_report _ _ _ (buffers c.args.cells.now c.args.decisions.now c.args.delays.now)
