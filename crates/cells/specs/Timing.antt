@@ -4,7 +4,8 @@
 --   no_times                the times that are 0 for each of 64 trains
 --   train_times timing i       the times of train i, which leaves station i
 --   slack_in timing s, source_in timing i, period_in timing s     one of the three
---   with_slack timing s v, with_source timing i v, with_period timing s v     the times with v in its place
+--   with_times timing i x      the times with x as those of train i
+--   with_source timing i v     the times with v as the source delay of train i
 --   running_in timing       how the trains run
 --   TimingGiven m timing    the numbers are in range for m trains
 -- Assumes nothing.
@@ -31,14 +32,11 @@ source_in timing i = (train_times timing i).source
 unfoldable pub period_in : Timing → ℕ → ℕ
 period_in timing s = (train_times timing s).period
 
-abbrev pub with_slack : Timing → ℕ → ℕ → Timing
-with_slack timing s v = record { trains = set timing.trains (s - 1) (record (train_times timing s) { slack = v }) }
+abbrev pub with_times : Timing → ℕ → TrainTimes → Timing
+with_times timing i x = record { trains = set timing.trains (i - 1) x }
 
 abbrev pub with_source : Timing → ℕ → ℕ → Timing
-with_source timing i v = record { trains = set timing.trains (i - 1) (record (train_times timing i) { source = v }) }
-
-abbrev pub with_period : Timing → ℕ → ℕ → Timing
-with_period timing s v = record { trains = set timing.trains (s - 1) (record (train_times timing s) { period = v }) }
+with_source timing i v = with_times timing i (record (train_times timing i) { source = v })
 
 -- a train arrives with its departure delay and its source delay
 abbrev pub running_in : Timing → Running

@@ -2,17 +2,17 @@
 ghost use Rattle.std.specs.Prelude.{◌≡◌, ◌+◌, ◌-◌, ◌*◌, ◌≤◌};
 ghost use Rattle.line.specs.Ranges.{latest, everyone, limit};
 ghost use Rattle.cells.specs.Timing.{no_times, slack_in, source_in, period_in};
-ghost use Rattle.cells.specs.Timing.{with_slack, with_source, with_period};
+ghost use Rattle.cells.specs.Timing.{with_times, with_source};
 
 use terms::{Station, Train};
 
 // Of one train: the slack at the station that it leaves, its source delay, and the minutes that
 // each passenger counts who misses it there.
 #[derive(Clone, Copy, Default)]
-struct TrainTimes {
-    slack: u32,
-    source: u32,
-    period: u32,
+pub struct TrainTimes {
+    pub slack: u32,
+    pub source: u32,
+    pub period: u32,
 }
 
 #[derive(Drop)]
@@ -57,14 +57,16 @@ impl Timing {
         u64::from(self.trains[station.index()].period)
     }
 
-    // The slack at a station becomes so many minutes.
-    #[tactic(auto, unfolding(crate::specs::Timing::slack_in))]
-    pub fn set_slack(&mut self, station: Station, minutes: u32)
-        requires { (1 ≤ station.0) × (station.0 ≤ 64) }
-        ensures whole { self.new ≡ with_slack self.old station.0 minutes }
-        ensures here { slack_in self.new station.0 ≡ minutes }
+    // The times of a train become these.
+    #[tactic(auto, using(crate::proofs::Times::replaced))]
+    pub fn set(&mut self, train: Train, times: TrainTimes)
+        requires { (1 ≤ train.0) × (train.0 ≤ 64) }
+        ensures whole { self.new ≡ with_times self.old train.0 times }
+        ensures slack { slack_in self.new train.0 ≡ times.slack }
+        ensures source { source_in self.new train.0 ≡ times.source }
+        ensures period { period_in self.new train.0 ≡ times.period }
     {
-        self.trains[station.index()].slack = minutes;
+        self.trains[train.index()] = times;
     }
 
     // The source delay of a train becomes so many minutes.
@@ -75,16 +77,6 @@ impl Timing {
         ensures here { source_in self.new train.0 ≡ minutes }
     {
         self.trains[train.index()].source = minutes;
-    }
-
-    // The period at a station becomes so many minutes.
-    #[tactic(auto, unfolding(crate::specs::Timing::period_in))]
-    pub fn set_period(&mut self, station: Station, minutes: u32)
-        requires { (1 ≤ station.0) × (station.0 ≤ 64) }
-        ensures whole { self.new ≡ with_period self.old station.0 minutes }
-        ensures here { period_in self.new station.0 ≡ minutes }
-    {
-        self.trains[station.index()].period = minutes;
     }
 }
 

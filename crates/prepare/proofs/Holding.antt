@@ -8,10 +8,10 @@ use Rattle.sheet.specs.Numbers.{Times, Numbers}
 use Rattle.sheet.specs.Accepted.{SameNumbers, with_delay}
 use Rattle.sheet.specs.Pairs.{passengers_of_pair}
 use Rattle.cells.specs.declared.timing.Timing.{Timing}
-use Rattle.cells.specs.Timing.{slack_in, source_in, period_in, with_slack, with_source, with_period}
-use Rattle.cells.proofs.Times.{slack_elsewhere, source_elsewhere, period_elsewhere, source_here}
-use Rattle.cells.proofs.Times.{source_with_slack, period_with_slack, slack_with_source, period_with_source}
-use Rattle.cells.proofs.Times.{slack_with_period, source_with_period}
+use Rattle.cells.specs.declared.timing.TrainTimes.{TrainTimes}
+use Rattle.cells.specs.Timing.{slack_in, source_in, period_in, with_times, with_source}
+use Rattle.cells.proofs.Times.{slack_elsewhere, source_elsewhere, period_elsewhere}
+use Rattle.cells.proofs.Times.{source_here, slack_with_source, period_with_source}
 use Rattle.prepare.specs.Prepared.{HoldsTimes, HoldsSums, TimingOf, SumsOf}
 use Rattle.prepare.proofs.Lines.{passengers_same}
 
@@ -43,44 +43,27 @@ times_none T x timing =
 pub sums_none : (n : ℕ → ℕ → ℕ) (sums : List ℕ) → HoldsSums 0 n sums
 sums_none n sums = record { leaving = λ k l a b c. absurd (omega arith) }
 
--- slack, source delay and period of train i are stored, and those of the trains before it were there; the train leaves
--- station s, and none of the three overwrites another, nor what an earlier train has
-module _ (i T : ℕ) (x : Times) (timing : Timing) (minutes s d : ℕ) (one two three : Timing) (least : 1 ≤ i)
-    (H : HoldsTimes (i - 1) T x timing)
-    (taken : 2 ≤ i → minutes ≡ x.departure i - x.departure (i - 1) - x.driving (i - 1)) (station : s ≡ i)
-    (delay : d ≡ x.delay i) where
-  pub times_next : one ≡ with_slack timing s minutes → slack_in one s ≡ minutes → two ≡ with_source one i d
-      → source_in two i ≡ d → three ≡ with_period two s T → period_in three s ≡ T → HoldsTimes i T x three
-  times_next a slacked b sourced c perioded =
-      record {
-        slack = λ j u v. elim (cases_eq j i) [
-          | inl same ↦ cc (slack_with_period two s T j, slack_with_source one i d j, taken (omega arith))
-          | inr not ↦ cc (
-            slack_with_period two s T j,
-            slack_with_source one i d j,
-            slack_elsewhere timing s minutes j (omega arith) (omega arith) (λ e. omega arith),
-            H.slack j u (omega arith),
-          )
-        ];
-        source = λ j u v. elim (cases_eq j i) [
-          | inl same ↦ cc (source_with_period two s T j)
-          | inr not ↦ cc (
-            source_with_period two s T j,
-            source_elsewhere one i d j least u not,
-            source_with_slack timing s minutes j,
-            H.source j u (omega arith),
-          )
-        ];
-        period = λ j u v. elim (cases_eq j i) [
-          | inl same ↦ cc
-          | inr not ↦ cc (
-            period_elsewhere two s T j (omega arith) u (λ e. omega arith),
-            period_with_source one i d j,
-            period_with_slack timing s minutes j,
-            H.period j u (omega arith),
-          )
-        ];
-      }
+-- the times of train i are replaced, and those of the trains before it were there
+pub times_next : (i T : ℕ) (x : Times) (timing after : Timing) (one : TrainTimes) → 1 ≤ i
+    → HoldsTimes (i - 1) T x timing → after ≡ with_times timing i one → slack_in after i ≡ one.slack
+    → source_in after i ≡ one.source → period_in after i ≡ one.period
+    → (2 ≤ i → one.slack ≡ x.departure i - x.departure (i - 1) - x.driving (i - 1)) → one.source ≡ x.delay i
+    → one.period ≡ T → HoldsTimes i T x after
+times_next i T x timing after one least H e slacked sourced perioded taken delay often =
+    record {
+      slack = λ j u v. elim (cases_eq j i) [
+        | inl same ↦ rw same (slacked ∙ taken (omega arith))
+        | inr not ↦ rw e (slack_elsewhere timing i j one least (omega arith) not) ∙ H.slack j u (omega arith)
+      ];
+      source = λ j u v. elim (cases_eq j i) [
+        | inl same ↦ rw same (sourced ∙ delay)
+        | inr not ↦ rw e (source_elsewhere timing i j one least u not) ∙ H.source j u (omega arith)
+      ];
+      period = λ j u v. elim (cases_eq j i) [
+        | inl same ↦ rw same (perioded ∙ often)
+        | inr not ↦ rw e (period_elsewhere timing i j one least u not) ∙ H.period j u (omega arith)
+      ];
+    }
 
 -- ---- one source delay replaced
 
@@ -92,7 +75,7 @@ timing_after_delay N i v timing after least e sourced H =
       slack = λ j a b. rw e (slack_with_source timing i v j) ∙ H.slack j a b;
       source = λ j a b. elim (cases_eq j i) [
         | inl same ↦ rw same sourced ∙ sym (same_yes v _ same)
-        | inr not ↦ rw e (source_elsewhere timing i v j least a not) ∙ H.source j a b ∙ sym (same_no v _ not)
+        | inr not ↦ rw e (source_elsewhere timing i j _ least a not) ∙ H.source j a b ∙ sym (same_no v _ not)
       ];
       period = λ j a b. rw e (period_with_source timing i v j) ∙ H.period j a b;
     }

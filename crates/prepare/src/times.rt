@@ -5,7 +5,7 @@ ghost use Rattle.sheet.specs.Held.{times_lent};
 ghost use Rattle.prepare.specs.Prepared.{HoldsTimes};
 ghost use Rattle.prepare.specs.Preparing.{SlackGiven, TrainGiven};
 
-use cells::timing::Timing;
+use cells::timing::{Timing, TrainTimes};
 use sheet::numbers::Lists;
 use terms::{Head, Train};
 
@@ -34,10 +34,12 @@ fn set_times(timing: &mut Timing, train: Train, period: u32, numbers: Lists)
         × HoldsTimes (train.0 - 1) period (times_lent numbers) timing.old }
     ensures { HoldsTimes train.0 period (times_lent numbers.entry) timing.new }
 {
-    let station = train.leaves();
-    timing.set_slack(station, slack(train, numbers.departures, numbers.driving));
-    timing.set_source(train, numbers.delays[train.index()]);
-    timing.set_period(station, period);
+    let times = TrainTimes {
+        slack: slack(train, numbers.departures, numbers.driving),
+        source: numbers.delays[train.index()],
+        period,
+    };
+    timing.set(train, times);
 }
 
 // The times of all trains.

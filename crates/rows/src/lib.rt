@@ -22,7 +22,7 @@ fn lesser(excess: u64, keep: u64, go: u64) -> u64
     if excess == 0 {
         return keep;
     }
-    if go < keep { go } else { keep }
+    keep.min(go)
 }
 
 // The row of `first`, from its last cell back to its first. `diagonal` is by station.
