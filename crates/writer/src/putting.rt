@@ -20,7 +20,7 @@ fn put_column(sheet: &mut [u8], column: Column, n: usize, list: &[u32])
         sheet.new }
 {
     for (k, number) in list[..n].iter().enumerate() {
-        put(sheet, column.first + column.step * k, column.width, *number);
+        column.put(sheet, k, *number);
     }
 }
 
@@ -47,12 +47,12 @@ fn put_times(sheet: &mut [u8], layout: Layout, numbers: Lists)
 }
 
 // Zeros behind the last field.
+#[tactic(auto, using(sheet::proofs::Lengths::filling_within, std::proofs::Common::pow_pos))]
 fn put_filling(sheet: &mut [u8], layout: Layout)
     requires { length sheet.old ≡ bytes_of layout.m }
     ensures { FillingPut layout.m sheet.old sheet.new }
 {
-    let n = layout.bits();
-    put(sheet, n, 8 * sheet.len() - n, 0);
+    put(sheet, layout.bits(), layout.filling(), 0);
 }
 
 // The whole sheet into as many bytes as it has.
