@@ -39,14 +39,14 @@ fn read_head(sheet: &[u8]) -> Reading
 }
 
 // The first `n` places of `list` become those of the column.
-#[tactic(auto, using(lists::proofs::Fill::filled_next), unfolding(sheet::specs::Format::entry))]
+#[tactic(auto, using(lists::proofs::Fill::filled_next))]
 fn read_column(list: &mut [u32], sheet: &[u8], column: Column, n: usize)
     requires { ColumnRoom sheet.now column n (length list.old) }
     ensures { Filled 0 (entry sheet.now column) n list.old
         list.new }
 {
     for (k, place) in list[..n].iter_mut().enumerate() {
-        *place = field(sheet, column.first + column.step * k, column.width);
+        *place = column.field(sheet, k);
     }
 }
 
@@ -68,13 +68,12 @@ fn read_columns(sheet: &[u8], layout: Layout, columns: &mut Columns)
 }
 
 // The filling bits.
-#[tactic(auto, using(sheet::proofs::Lengths::bits_le, sheet::proofs::Lengths::bytes_bits), unfolding(sheet::specs::Checks::filling_verdict, sheet::specs::Format::filling_of, terms::specs::Verdict::verdict_of, lists::specs::Choice::if_below))]
+#[tactic(auto, using(sheet::proofs::Lengths::filling_within), unfolding(sheet::specs::Checks::filling_verdict, sheet::specs::Format::filling_of, terms::specs::Verdict::verdict_of, lists::specs::Choice::if_below))]
 fn check_filling(sheet: &[u8], layout: Layout) -> Verdict
     requires { HeadRead sheet.now layout.m }
     ensures { result ≡ filling_verdict sheet.now }
 {
-    let n = layout.bits();
-    if 0 < field(sheet, n, 8 * sheet.len() - n) {
+    if 0 < field(sheet, layout.bits(), layout.filling()) {
         return Err(Refusal::Filling);
     }
     Ok(())

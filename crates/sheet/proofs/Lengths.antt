@@ -1,7 +1,7 @@
 -- Laws of a sheet's lengths: its fields fill its bits, its bytes hold them with at most seven more, both are small,
 -- each field lies within the sheet, and two columns have no bit in common.
 -- Assumes nothing.
-use Rattle.std.proofs.Common.{◌≡◌, refl, List, inl, inr, ⊎_elim, ℕ, zero, suc, ◌+◌, ◌*◌, ◌%◌, ◌≤◌, ◌<◌, mul-le-mul}
+use Rattle.std.proofs.Common.{◌≡◌, refl, List, inl, inr, ⊎_elim, ℕ, zero, suc, ◌+◌, ◌-◌, ◌*◌, ◌%◌, ◌≤◌, ◌<◌, mul-le-mul}
 use Rattle.std.proofs.Common.{mul-add, suc-mul, mul-suc, mul-one, arith, lit≤, length}
 use Rattle.std.proofs.lemmas.Bool.{cases_lt}
 use Rattle.bits.specs.Field.{Apart, Within}
@@ -51,6 +51,12 @@ pub passengers_within : (s : List ℕ) (m k : ℕ) → bits_of m ≤ 8 * length 
     → Within s (18 + 33 * m + 14 * k) 14
 passengers_within s m k room most l =
     record { inside = omega (arith, layout m); narrow = lit≤ tt; near = omega (arith, pairs_le m most) }
+
+pub filling_within : (s : List ℕ) (m : ℕ) → length s ≡ bytes_of m → m ≤ 64
+    → Within s (bits_of m) (8 * bytes_of m - bits_of m)
+filling_within s m long most =
+    let b = bytes_bits m in
+    record { inside = omega arith; narrow = omega arith; near = omega (arith, bits_le m most) }
 
 -- fields of trains i + 1 and j + 1 in two columns
 pub trains_apart : (a v b w i j : ℕ) → a + v ≤ b → b + w ≤ a + 33 → Apart (a + 33 * i) v (b + 33 * j) w

@@ -2,10 +2,11 @@
 -- when its numbers are in range. The fields are joined one after the other until they are the whole sheet.
 -- Assumes nothing.
 use Rattle.std.proofs.Common.{◌≡◌, refl, sym, ap, ap₂, ◌∙◌, List, ⊎_elim, ℕ, zero, suc, ◌+◌, ◌-◌, ◌*◌, ◌^◌, ◌≤◌, ◌<◌}
-use Rattle.std.proofs.Common.{mul-suc, mul-zero, zero-add, arith, length}
+use Rattle.std.proofs.Common.{mul-suc, mul-zero, zero-add, arith, length, take, get_or-take, length-take-le}
 use Rattle.lists.specs.Choice.{if_below}
 use Rattle.lists.proofs.Choice.{below_no}
 use Rattle.std.proofs.lemmas.Bool.{cases_lt}
+use Rattle.lists.specs.Run.{nth}
 use Rattle.lists.proofs.Run.{run_same}
 use Rattle.bits.specs.Field.{field_of, Bytes}
 use Rattle.bits.proofs.Fields.{field_none, field_split}
@@ -72,6 +73,15 @@ passengers_verdict_same : (N M : Numbers) → SameNumbers N M → (f : ℕ) → 
     → passengers_verdict N.passengers f ≡ passengers_verdict M.passengers f
 unfolding passengers_verdict
 passengers_verdict_same N M h f a b = rw (h.passengers f a b) refl
+
+-- the first n passengers of a list have the verdict of the list up to field n
+pub passengers_first : (p : List ℕ) (n : ℕ) → n ≤ length p
+    → first_of (passengers_verdict (nth (take n p))) 1 (length (take n p)) ≡ first_of (passengers_verdict (nth p)) 1 n
+unfolding passengers_verdict first_of
+passengers_first p n l =
+    let long = length-take-le n p l in
+    rw long
+    (run_same ◌and_then◌ Fine _ _ 1 n (λ f a b. rw (get_or-take n p (f - 1) 0 (omega arith)) refl))
 
 -- the same numbers have the same verdict
 pub verdict_same : (N M : Numbers) → SameNumbers N M

@@ -117,12 +117,12 @@ fn check_trains(m: u32, given: Lists) -> Verdict
     Ok(())
 }
 
-// Passenger fields 1 to `n`.
-fn check_passengers(n: usize, passengers: &[u32]) -> Verdict
-    requires { (n ≤ 2080) × (n ≤ length passengers.now) }
-    ensures { result ≡ first_of (passengers_verdict (nth passengers.now)) 1 n }
+// The passenger fields, from the first on.
+fn check_passengers(passengers: &[u32]) -> Verdict
+    requires { length passengers.now ≤ 2080 }
+    ensures { result ≡ first_of (passengers_verdict (nth passengers.now)) 1 (length passengers.now) }
 {
-    for (k, count) in passengers[..n].iter().enumerate() {
+    for (k, count) in passengers.iter().enumerate() {
         if 10000 < *count {
             return Err(Refusal::Passengers(k as u32 + 1));
         }
@@ -138,5 +138,6 @@ pub fn check_numbers(m: u32, given: Lists) -> Verdict
         (nth given.entry.passengers.now) }
 {
     check_trains(m, given)?;
-    check_passengers(Layout::new(m).pairs(), given.passengers)
+    let n = Layout::new(m).pairs();
+    check_passengers(&given.passengers[..n])
 }

@@ -1,6 +1,9 @@
 // Where the fields of every sheet stand.
-ghost use Rattle.std.specs.Prelude.{◌≡◌};
-ghost use Rattle.sheet.specs.Format.{departure_column, driving_column, delay_column};
+ghost use Rattle.std.specs.Prelude.{◌≡◌, ◌+◌, ◌*◌, ◌^◌, ◌<◌};
+ghost use Rattle.bits.specs.Field.{Within, Put};
+ghost use Rattle.sheet.specs.Format.{entry, departure_column, driving_column, delay_column};
+
+use bits::{field, put};
 
 // The head: m, then T.
 pub const TRAINS_AT: usize = 0;
@@ -49,5 +52,22 @@ impl Column {
             step: 33,
             width: 11,
         }
+    }
+
+    // The number in place `k`, from 0.
+    #[tactic(auto, unfolding(crate::specs::Format::entry))]
+    pub fn field(self, sheet: &[u8], k: usize) -> u32
+        requires { Within sheet.now (self.first + self.step * k) self.width }
+        ensures { result ≡ entry sheet.now self k }
+    {
+        field(sheet, self.first + self.step * k, self.width)
+    }
+
+    // Place `k`, from 0, becomes `value`.
+    pub fn put(self, sheet: &mut [u8], k: usize, value: u32)
+        requires { Within sheet.old (self.first + self.step * k) self.width × (value < 2 ^ self.width) }
+        ensures { Put sheet.old (self.first + self.step * k) self.width value sheet.new }
+    {
+        put(sheet, self.first + self.step * k, self.width, value);
     }
 }

@@ -12,7 +12,7 @@ pub struct Layout {
 }
 
 impl Layout {
-    ghost use Rattle.std.specs.Prelude.{◌≡◌};
+    ghost use Rattle.std.specs.Prelude.{◌≡◌, ◌-◌, ◌*◌};
     ghost use Rattle.sheet.specs.Format.{passenger_column, bits_of, bytes_of, pairs_of};
     ghost use Rattle.sheet.specs.Pairs.{IsPair, field_of_pair};
 
@@ -38,6 +38,14 @@ impl Layout {
         ensures { result ≡ bytes_of self.m }
     {
         (self.bits() + 7) / 8
+    }
+
+    // Its filling bits, behind the last field.
+    #[tactic(auto, using(crate::proofs::Lengths::bytes_le, crate::proofs::Lengths::bytes_bits))]
+    pub fn filling(self) -> usize
+        ensures { result ≡ 8 * bytes_of self.m - bits_of self.m }
+    {
+        8 * self.bytes() - self.bits()
     }
 
     // Its passenger fields.

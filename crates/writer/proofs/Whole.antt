@@ -15,29 +15,27 @@ use Rattle.writer.specs.Putting.{PutRoom, ColumnPut, HeadRoom, HeadPut, TimesRoo
 
 -- ---- what the steps need
 
-module _ (s t : List ℕ) (m : ℕ) (d r y : List ℕ) (most : m ≤ 64) (h : TimesRoom s m d r y)
-    (same : length t ≡ length s) where
+module _ (s t : List ℕ) (m : ℕ) (d r y : List ℕ) (h : TimesRoom s m d r y) (same : length t ≡ length s) where
   -- a column of the trains, `a` bits from the sheet's start and w bits wide
-  train_column : (l : List ℕ) (a w : ℕ) → m ≤ length l → (18 ≤ a) × (a + w ≤ 51) × (w ≤ 16)
+  train_column : (l : List ℕ) (a w : ℕ) → length l ≡ m → (18 ≤ a) × (a + w ≤ 51) × (w ≤ 16)
       → ((i : ℕ) → 1 ≤ i → i ≤ m → get_or l (i - 1) 0 < 2 ^ w)
-      → PutRoom t (record { first = a; step = 33; width = w }) m l
+      → PutRoom t (record { first = a; step = 33; width = w }) l
   train_column l a w long b small =
       let room = h.room in
       record {
-        listed = long;
         spaced = omega arith;
-        within = λ k c. train_within t m a w k (omega arith) most b.1 b.2 c;
+        within = λ k c. train_within t m a w k (omega arith) h.most b.1 b.2 (omega arith);
         small = λ k c. let e : k + 1 - 1 ≡ k = omega arith in rw e at (small (k + 1) (omega arith) (omega arith));
       }
 
-  pub departures_room : PutRoom t departure_column m d
+  pub departures_room : PutRoom t departure_column d
   departures_room =
       train_column d 18 12 h.departures (omega arith) (λ i a b. omega (arith, h.departure i a b))
 
-  pub driving_room : PutRoom t driving_column m r
+  pub driving_room : PutRoom t driving_column r
   driving_room = train_column r 30 10 h.driving (omega arith) (λ i a b. omega (arith, h.drive i a b))
 
-  pub delays_room : PutRoom t delay_column m y
+  pub delays_room : PutRoom t delay_column y
   delays_room = train_column y 40 11 h.delays (omega arith) (λ i a b. omega (arith, h.delay i a b))
 
 module _ (G : Given) (s t : List ℕ) (h : Writable G s) (same : length t ≡ length s) where
@@ -56,16 +54,17 @@ module _ (G : Given) (s t : List ℕ) (h : Writable G s) (same : length t ≡ le
       let b = bytes_bits G.trains in
       let l = h.long in
       record {
+        most = h.range.trains_most;
         room = omega (arith, layout G.trains);
-        departures = omega (arith, h.lengths.departures);
-        driving = omega (arith, h.lengths.driving);
-        delays = omega (arith, h.lengths.delays);
+        departures = h.lengths.departures;
+        driving = h.lengths.driving;
+        delays = h.lengths.delays;
         departure = λ i a b. (h.range.train i a b).departure;
         drive = λ i a b. (h.range.train i a b).driving;
         delay = λ i a b. (h.range.train i a b).delay;
       }
 
-  pub passengers_room : PutRoom t (passenger_column G.trains) (length G.lists.passengers) G.lists.passengers
+  pub passengers_room : PutRoom t (passenger_column G.trains) G.lists.passengers
   passengers_room =
       let m = G.trains in
       let b = bytes_bits m in
@@ -73,7 +72,6 @@ module _ (G : Given) (s t : List ℕ) (h : Writable G s) (same : length t ≡ le
       let n = h.lengths.passengers in
       let most = h.range.trains_most in
       record {
-        listed = omega arith;
         spaced = lit≤ tt;
         within = λ k c. passengers_within t m k (omega arith) most (omega arith);
         small = λ k c.

@@ -14,14 +14,13 @@ use Rattle.sheet.specs.Format.{delay_of, bits_of, bytes_of, pairs_of}
 use Rattle.sheet.specs.Accepted.{Lengths, InRange}
 use Rattle.writer.specs.Write.{Given, numbers_given}
 
--- the first n numbers of the list fit the column, and the column the sheet
-pub record PutRoom (s : List ℕ) (c : Column) (n : ℕ) (l : List ℕ) : Type 0 where
-  pub listed : n ≤ length l
+-- the numbers of the list fit the column, and the column the sheet
+pub record PutRoom (s : List ℕ) (c : Column) (l : List ℕ) : Type 0 where
   pub spaced : c.width ≤ c.step
-  pub within : (k : ℕ) → k < n → Within s (c.first + c.step * k) c.width
-  pub small : (k : ℕ) → k < n → get_or l k 0 < 2 ^ c.width
+  pub within : (k : ℕ) → k < length l → Within s (c.first + c.step * k) c.width
+  pub small : (k : ℕ) → k < length l → get_or l k 0 < 2 ^ c.width
 
--- t is s with those numbers in the column, and every field apart from them as it was
+-- t is s with the first n numbers of the list in the column, and every field apart from them as it was
 pub record ColumnPut (s : List ℕ) (c : Column) (n : ℕ) (l t : List ℕ) : Type 0 where
   pub long : length t ≡ length s
   pub holds : (k : ℕ) → k < n → entry t c k ≡ get_or l k 0
@@ -40,12 +39,13 @@ pub record HeadPut (s : List ℕ) (m T : ℕ) (t : List ℕ) : Type 0 where
   pub trains : trains_of t ≡ m
   pub period : period_of t ≡ T
 
--- the times of trains 1 to m stand in the lists d, r and y, fit their fields, and the sheet has room for them
+-- the times of trains 1 to m are the lists d, r and y, fit their fields, and the sheet has room for them
 pub record TimesRoom (s : List ℕ) (m : ℕ) (d r y : List ℕ) : Type 0 where
+  pub most : m ≤ 64
   pub room : 18 + 33 * m ≤ 8 * length s
-  pub departures : m ≤ length d
-  pub driving : m ≤ length r
-  pub delays : m ≤ length y
+  pub departures : length d ≡ m
+  pub driving : length r ≡ m
+  pub delays : length y ≡ m
   pub departure : (i : ℕ) → 1 ≤ i → i ≤ m → nth d i ≤ 2879
   pub drive : (i : ℕ) → 1 ≤ i → i ≤ m → nth r i ≤ 1023
   pub delay : (i : ℕ) → 1 ≤ i → i ≤ m → nth y i ≤ 1440

@@ -13,14 +13,13 @@ use sheet::layout::Layout;
 use sheet::numbers::Lists;
 use terms::Head;
 
-// The first `n` places of the column become those of `list`.
-fn put_column(sheet: &mut [u8], column: Column, n: usize, list: &[u32])
-    requires { PutRoom sheet.old column n list.now }
-    ensures { ColumnPut sheet.old column n list.now
-        sheet.new }
+// The first places of the column become those of `list`.
+fn put_column(sheet: &mut [u8], column: Column, list: &[u32])
+    requires { PutRoom sheet.old column list.now }
+    ensures { ColumnPut sheet.old column (length list.now) list.now sheet.new }
 {
-    for (k, number) in list[..n].iter().enumerate() {
-        put(sheet, column.first + column.step * k, column.width, *number);
+    for (k, number) in list.iter().enumerate() {
+        column.put(sheet, k, *number);
     }
 }
 
@@ -34,26 +33,24 @@ fn put_head(sheet: &mut [u8], head: Head)
 }
 
 // The times of the trains, column by column.
-fn put_times(sheet: &mut [u8], layout: Layout, numbers: Lists)
-    requires { TimesRoom sheet.old layout.m numbers.departures.now numbers.driving.now
-        numbers.delays.now }
-    ensures { TimesPut sheet.old layout.m numbers.entry.departures.now
-        numbers.entry.driving.now numbers.entry.delays.now sheet.new }
+fn put_times(sheet: &mut [u8], numbers: Lists)
+    requires { TimesRoom sheet.old (length numbers.departures.now)
+        numbers.departures.now numbers.driving.now numbers.delays.now }
+    ensures { TimesPut sheet.old (length numbers.entry.departures.now)
+        numbers.entry.departures.now numbers.entry.driving.now numbers.entry.delays.now sheet.new }
 {
-    let n = layout.m as usize;
-    put_column(sheet, Column::departures(), n, numbers.departures);
-    put_column(sheet, Column::driving(), n, numbers.driving);
-    put_column(sheet, Column::delays(), n, numbers.delays);
+    put_column(sheet, Column::departures(), numbers.departures);
+    put_column(sheet, Column::driving(), numbers.driving);
+    put_column(sheet, Column::delays(), numbers.delays);
 }
 
 // Zeros behind the last field.
-#[tactic(auto, using(sheet::proofs::Lengths::bits_le, sheet::proofs::Lengths::bytes_bits, std::proofs::lemmas::Nat::pow_pos))]
+#[tactic(auto, using(sheet::proofs::Lengths::filling_within, std::proofs::Common::pow_pos))]
 fn put_filling(sheet: &mut [u8], layout: Layout)
     requires { length sheet.old ≡ bytes_of layout.m }
     ensures { FillingPut layout.m sheet.old sheet.new }
 {
-    let n = layout.bits();
-    put(sheet, n, 8 * sheet.len() - n, 0);
+    put(sheet, layout.bits(), layout.filling(), 0);
 }
 
 // The whole sheet into as many bytes as it has.
@@ -63,12 +60,7 @@ pub fn put_sheet(sheet: &mut [u8], head: Head, numbers: Lists)
 {
     let layout = Layout::new(head.trains);
     put_head(sheet, head);
-    put_times(sheet, layout, numbers);
-    put_column(
-        sheet,
-        layout.passengers(),
-        numbers.passengers.len(),
-        numbers.passengers,
-    );
+    put_times(sheet, numbers);
+    put_column(sheet, layout.passengers(), numbers.passengers);
     put_filling(sheet, layout);
 }

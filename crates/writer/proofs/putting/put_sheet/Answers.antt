@@ -9,8 +9,7 @@ put_head-requires c = head_room _ _ _ c.requires refl
 -- the head left the length as it was
 pub put_times-requires : goal.put_times-requires
 put_times-requires c =
-    rw c.new-layout.ensures
-    (times_room _ _ _ c.requires c.put_head.ensures.long)
+    rw c.requires.lengths.departures (times_room _ _ _ c.requires c.put_head.ensures.long)
 
 -- and so did the times
 pub put_column-requires : goal.put_column-requires
@@ -22,7 +21,8 @@ put_column-requires c =
 pub returns : goal.returns
 returns c =
     let trains = c.new-layout.ensures in
-    sheet_put _ _ _ _ _ _ c.requires c.put_head.ensures (rw trains at c.put_times.ensures)
+    sheet_put _ _ _ _ _ _ c.requires c.put_head.ensures
+    (rw c.requires.lengths.departures at c.put_times.ensures)
     (rw (c.passengers.ensures, trains) at c.put_column.ensures)
     (rw trains at c.put_filling.ensures)
     (λ i. (c.type_inv.sheet i).fits)
