@@ -18,7 +18,6 @@ ghost use Rattle.planner.specs.Workable.{DelayRoom};
 
 use crate::checking::{check_buffers, check_report};
 use crate::settling::settle;
-use bits::put;
 use cells::tables::Tables;
 use cells::timing::Timing;
 use prepare::prepare;
@@ -70,9 +69,7 @@ fn put_delay(sheet: &mut [u8], delay: Delay)
     requires { DelayRoom sheet.old delay.train.0 delay.minutes }
     ensures { DelayReplaced sheet.old delay.train.0 delay.minutes sheet.new }
 {
-    let column = Column::delays();
-    let k = delay.train.index();
-    put(sheet, column.first + column.step * k, column.width, delay.minutes);
+    Column::delays().put(sheet, delay.train.index(), delay.minutes);
 }
 
 // Sheet and times take the train's new source delay.
