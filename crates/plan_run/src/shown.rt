@@ -47,10 +47,7 @@ pub fn sums_of(lists: Lists) -> Sums
 fn trains(sheet: &[u8]) -> usize
     ensures { result ≤ 127 }
 {
-    match sheet.first() {
-        Some(byte) => usize::from(byte / 2),
-        None => 0,
-    }
+    sheet.first().map_or(0, |byte| usize::from(byte / 2))
 }
 
 // The lists in full, with the cells in use where the call was accepted.
