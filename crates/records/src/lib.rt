@@ -42,10 +42,7 @@ pub trait Kind: Sized {
 // Runs records until the input ends or a letter begins none; at most 100,000.
 pub fn run<K: Kind, R: Read, W: Write>(from: &mut R, out: &mut W) -> io::Result<()> {
     for _ in 0..100_000 {
-        let Some(letter) = byte(from)? else {
-            return Ok(());
-        };
-        let Some(record) = K::of_letter(letter) else {
+        let Some(record) = byte(from)?.and_then(|letter| K::of_letter(letter)) else {
             return Ok(());
         };
         record.run(from, out)?;

@@ -13,7 +13,7 @@ pub fn byte<R: Read>(from: &mut R) -> io::Result<Option<u8>>
 {
     let mut read = [0u8; 1];
     let n = from.read(&mut read)?;
-    Ok(if n == 1 { Some(read[0]) } else { None })
+    Ok((n == 1).then_some(read[0]))
 }
 
 // As many bytes as there is room for; where the input ends, the rest stays as it is.
