@@ -6,4 +6,4 @@ use Rattle.cells.specs.declared.book.Book.{Book as Holder}
 use Rattle.cells.specs.Book.{book_in}
 
 abbrev pub book_held : Holder → Book
-book_held b = book_in b.m b.timing.now b.sums.now
+book_held b = book_in b.m b.timing.now b.sums.list.now
