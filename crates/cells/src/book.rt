@@ -1,10 +1,11 @@
 // What cells are worked from, as one value: a line's times, the sums of those who leave, and by
 // station those who board there or later. Its fields are in range and belong together.
+ghost use Rattle.std.specs.Prelude.{◌≡◌};
 ghost use Rattle.cells.specs.Sums.{Boarders};
 ghost use Rattle.cells.specs.Book.{BookGiven};
 
 use crate::costs::{Cost, Costs};
-use crate::sums::{SUMS, boarders, leaving};
+use crate::sums::Sums;
 use crate::tables::Tables;
 use crate::timing::{Timing, cost};
 use terms::Train;
@@ -13,14 +14,15 @@ use terms::Train;
 pub struct Book<'a> {
     pub m: u32,
     pub timing: &'a Timing,
-    pub sums: &'a [u32; SUMS],
+    pub sums: Sums<'a>,
     pub boarding: [u64; 64],
-    pub ghost given: { BookGiven m timing.now sums.now },
-    pub ghost boarders: { Boarders m sums.now boarding },
+    pub ghost given: { BookGiven m timing.now sums.list.now },
+    pub ghost same: { sums.m ≡ m },
+    pub ghost boarders: { Boarders m sums.list.now boarding },
 }
 
 impl<'a> Book<'a> {
-    ghost use Rattle.std.specs.Prelude.{◌≡◌, ◌≤◌};
+    ghost use Rattle.std.specs.Prelude.{◌≤◌};
     ghost use Rattle.cells.specs.Costs.{CostsAlong};
     ghost use Rattle.cells.specs.Held.{book_held};
 
@@ -29,10 +31,11 @@ impl<'a> Book<'a> {
         requires { BookGiven m tables.now.timing tables.now.sums }
         ensures m { result.m ≡ m }
         ensures timing { result.timing.now ≡ tables.now.timing }
-        ensures sums { result.sums.now ≡ tables.now.sums }
+        ensures sums { result.sums.list.now ≡ tables.now.sums }
     {
         let Tables { timing, sums } = tables;
-        let boarding = boarders(sums, m);
+        let sums = Sums::new(m, sums);
+        let boarding = sums.boarders();
         Book {
             m,
             timing,
@@ -57,7 +60,7 @@ impl<'a> Book<'a> {
             let station = train.leaves();
             let excess = self.timing.excess_at(station, late);
             late = self.timing.arrives(train, excess);
-            let leave = leaving(self.sums, self.m, from, train);
+            let leave = self.sums.leaving(from, train);
             let keep = cost(leave, late);
             let aboard = boarded - self.boarding[station.index()];
             let go = cost(aboard, self.timing.period_at(station));

@@ -20,41 +20,56 @@ pub fn place_of_sum(from: Station, train: Train) -> usize
     64 * from.index() + train.index()
 }
 
-// Those who board at `from` or later and leave `train`.
-pub fn leaving(sums: &[u32; SUMS], m: u32, from: Station, train: Train) -> u64
-    requires { SumsGiven m sums.now × (1 ≤ from.0) × (from.0 ≤ train.0) ×
-        (train.0 ≤ m) }
-    ensures { (result ≡ leaving_in sums.now from.0 train.0) ×
-        (result ≤ everyone) }
-{
-    u64::from(sums[place_of_sum(from, train)])
+// The sums of a line of `m` trains, in range.
+#[derive(Clone, Copy)]
+pub struct Sums<'a> {
+    pub m: u32,
+    pub list: &'a [u32; SUMS],
+    pub ghost given: { SumsGiven m list.now },
 }
 
-// Those who board at `from` or later and leave `train` or a later one.
-#[tactic(auto, using(crate::proofs::Leavers::counting))]
-fn boarded(sums: &[u32; SUMS], m: u32, from: Station, train: Train) -> u64
-    requires { SumsGiven m sums.now × (1 ≤ from.0) × (from.0 ≤ train.0) ×
-        (train.0 ≤ m) }
-    ensures { result ≡ boarded_in m sums.now from.0 train.0 }
-{
-    let mut sum: u64 = 0;
-    for t in (train.0..=m).rev() {
-        sum += leaving(sums, m, from, Train(t));
+impl<'a> Sums<'a> {
+    pub fn new(m: u32, list: &'a [u32; SUMS]) -> Sums<'a>
+        requires { SumsGiven m list.now }
+        ensures m { result.m ≡ m }
+        ensures list { result.list.now ≡ list.now }
+    {
+        Sums { m, list }
     }
-    sum
-}
 
-// By station, those who board there or later.
-#[tactic(auto, using(lists::proofs::Held::held_set))]
-pub(crate) fn boarders(sums: &[u32; SUMS], m: u32) -> [u64; 64]
-    requires { SumsGiven m sums.now }
-    ensures { Boarders m sums.now result }
-{
-    let mut boarding = [0u64; 64];
-    for i in 1..=m {
-        let train = Train(i);
-        let from = train.leaves();
-        boarding[from.index()] = boarded(sums, m, from, train);
+    // Those who board at `from` or later and leave `train`.
+    pub fn leaving(&self, from: Station, train: Train) -> u64
+        requires { (1 ≤ from.0) × (from.0 ≤ train.0) × (train.0 ≤ self.now.m) }
+        ensures { (result ≡ leaving_in self.now.list.now from.0 train.0) ×
+            (result ≤ everyone) }
+    {
+        u64::from(self.list[place_of_sum(from, train)])
     }
-    boarding
+
+    // Those who board at `from` or later and leave `train` or a later one.
+    #[tactic(auto, using(crate::proofs::Leavers::counting))]
+    fn boarded(&self, from: Station, train: Train) -> u64
+        requires { (1 ≤ from.0) × (from.0 ≤ train.0) × (train.0 ≤ self.now.m) }
+        ensures { result ≡ boarded_in self.now.m self.now.list.now from.0 train.0 }
+    {
+        let mut sum: u64 = 0;
+        for t in (train.0..=self.m).rev() {
+            sum += self.leaving(from, Train(t));
+        }
+        sum
+    }
+
+    // By station, those who board there or later.
+    #[tactic(auto, using(lists::proofs::Held::held_set))]
+    pub(crate) fn boarders(&self) -> [u64; 64]
+        ensures { Boarders self.now.m self.now.list.now result }
+    {
+        let mut boarding = [0u64; 64];
+        for i in 1..=self.m {
+            let train = Train(i);
+            let from = train.leaves();
+            boarding[from.index()] = self.boarded(from, train);
+        }
+        boarding
+    }
 }

@@ -10,7 +10,7 @@ use Rattle.cells.proofs.book.Book.costs_along.Goals.{After-index-in-loop-i, Afte
 
 -- who boards where train i leaves, or later, read at its place
 boards_at : (book : Holder) (p i : ℕ) → p ≡ i - 1 → 1 ≤ i → i ≤ book.m
-    → get_or book.boarding p 0 ≡ boarded_in book.m book.sums.now i i
+    → get_or book.boarding p 0 ≡ boarded_in book.m book.sums.list.now i i
 boards_at book p i at least most = nth_index book.boarding p i at ∙ book.boarders.held i least most
 
 -- they are among those counted, who are no more than everyone
@@ -25,7 +25,7 @@ boards c =
 -- the stations up to i are done
 next : (c : After-put_costs) →
     let book = c.args.self.now in
-    CostsTo book.m c.leaves-from.result.0 book.timing.now book.sums.now c.put_costs.new.self c.arrives-late.result
+    CostsTo book.m c.leaves-from.result.0 book.timing.now book.sums.list.now c.put_costs.new.self c.arrives-late.result
     (c.loop-i.boarded - c.leaving-leave.result) (c.loop-i.i + 1)
 next c =
     let book = c.args.self.now in
