@@ -64,7 +64,7 @@ fn read_columns(sheet: &[u8], layout: Layout, columns: &mut Columns)
 }
 
 // The filling bits.
-#[tactic(auto, using(sheet::proofs::Lengths::filling_within), unfolding(sheet::specs::Checks::filling_verdict, sheet::specs::Format::filling_of, terms::specs::Verdict::verdict_of, lists::specs::Choice::if_below))]
+#[tactic(auto, using(sheet::proofs::Lengths::filling_within), unfolding(sheet::specs::Checks::filling_verdict, terms::specs::Verdict::verdict_of, lists::specs::Choice::if_below))]
 fn check_filling(sheet: &[u8], layout: Layout) -> Verdict
     requires { HeadRead sheet.now layout.m }
     ensures { result ≡ filling_verdict sheet.now }
