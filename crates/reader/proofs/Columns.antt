@@ -1,9 +1,10 @@
 -- The columns of a sheet: their fields lie within the sheet, and lists into which they were read keep their lengths,
 -- hold the sheet's numbers, and are the only such lists.
 -- Assumes nothing.
-use Rattle.std.proofs.Common.{◌≡◌, sym, ◌∙◌, List, ⊎_elim, ℕ, ◌+◌, ◌-◌, ◌≤◌, ◌<◌, arith, ext_get_or}
+use Rattle.std.proofs.Common.{◌≡◌, sym, ◌∙◌, List, take, length, ⊎_elim, ℕ, ◌+◌, ◌-◌, ◌≤◌, ◌<◌, arith, ext_get_or}
 use Rattle.lists.specs.Filled.{Filled}
 use Rattle.std.proofs.lemmas.Bool.{cases_lt}
+use Rattle.std.proofs.lemmas.List.{length-take-le}
 use Rattle.sheet.specs.Format.{trains_of, period_of, passenger_column, pairs_of}
 use Rattle.sheet.specs.Numbers.{Lists, numbers_of, numbers_in}
 use Rattle.sheet.specs.Checks.{Room}
@@ -15,25 +16,22 @@ use Rattle.reader.specs.Decoded.{ColumnRoom, HeadRead, Body, ColumnsRead}
 
 module _ (s : List ℕ) (m : ℕ) (most : m ≤ 64) (h : HeadRead s m) where
   -- the column of the trains whose first field is the w bits from bit a
-  pub train_room : (a w size : ℕ) → a + w ≤ 51 → w ≤ 16 → size ≡ 64
-      → ColumnRoom s (record { first = a; step = 33; width = w }) m size
-  train_room a w size end narrow e =
+  pub train_room : (a w : ℕ) (l : List ℕ) → a + w ≤ 51 → w ≤ 16 → length l ≡ 64
+      → ColumnRoom s (record { first = a; step = 33; width = w }) (length (take m l))
+  train_room a w l end narrow e =
       let b = bytes_bits m in
-      let l = h.long in
-      record {
-        room = omega arith;
-        within = λ k c. train_within s m a w k (omega (arith, layout m)) most end narrow c;
-      }
+      let long = h.long in
+      rw (length-take-le m l (rw e most))
+      (record { within = λ k c. train_within s m a w k (omega (arith, layout m)) most end narrow c })
 
   -- the column of the passengers
-  pub passenger_room : (size : ℕ) → size ≡ 2080 → ColumnRoom s (passenger_column m) (pairs_of m) size
-  passenger_room size e =
+  pub passenger_room : (l : List ℕ) → length l ≡ 2080
+      → ColumnRoom s (passenger_column m) (length (take (pairs_of m) l))
+  passenger_room l e =
       let b = bytes_bits m in
-      let l = h.long in
-      record {
-        room = omega (arith, pairs_le m most);
-        within = λ k c. passengers_within s m k (omega arith) most c;
-      }
+      let long = h.long in
+      rw (length-take-le (pairs_of m) l (rw e (pairs_le m most)))
+      (record { within = λ k c. passengers_within s m k (omega arith) most c })
 
 -- the lists have room for what the checks of m trains read
 pub body_room : (s : List ℕ) (m : ℕ) (L : Lists) → m ≤ 64 → Body s m L → Lengths 64 2080 L → Room m L

@@ -1,5 +1,5 @@
 -- What taking a sheet apart needs and leaves. Document 01, "Four operations", read: fields first.
---   ColumnRoom s c n size        n places of the column c can be read from the sheet s into a list of `size` numbers
+--   ColumnRoom s c n             n places of the column c can be read from the sheet s
 --   HeadRead s m                 the sheet s has m trains and the length that m demands
 --   Body s m L                   behind such a head, the numbers of the sheet stand in the lists L
 --   ColumnsRead s before after   the lists hold the sheet's columns, fields first, the other places as before
@@ -18,9 +18,8 @@ use Rattle.sheet.specs.Numbers.{Lists, numbers_of, numbers_in}
 use Rattle.sheet.specs.Checks.{head_verdict, sheet_verdict}
 use Rattle.sheet.specs.Accepted.{SameNumbers}
 
--- n places of the column lie in the sheet, and a list of `size` has room for them
-pub record ColumnRoom (s : List ℕ) (c : Column) (n size : ℕ) : Type 0 where
-  pub room : n ≤ size
+-- n places of the column lie in the sheet
+pub record ColumnRoom (s : List ℕ) (c : Column) (n : ℕ) : Type 0 where
   pub within : (k : ℕ) → k < n → Within s (c.first + c.step * k) c.width
 
 -- the sheet has m trains and the length that m demands

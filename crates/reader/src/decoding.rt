@@ -38,37 +38,33 @@ fn read_head(sheet: &[u8]) -> Reading
     Ok(claimed)
 }
 
-// The first `n` places of `list` become those of the column.
+// The list becomes the first places of the column.
 #[tactic(auto, using(lists::proofs::Fill::filled_next))]
-fn read_column(list: &mut [u32], sheet: &[u8], column: Column, n: usize)
-    requires { ColumnRoom sheet.now column n (length list.old) }
-    ensures { Filled 0 (entry sheet.now column) n list.old
-        list.new }
+fn read_column(list: &mut [u32], sheet: &[u8], column: Column)
+    requires { ColumnRoom sheet.now column (length list.old) }
+    ensures { Filled 0 (entry sheet.now column) (length list.old) list.old list.new }
 {
-    for (k, place) in list[..n].iter_mut().enumerate() {
+    for (k, place) in list.iter_mut().enumerate() {
         *place = column.field(sheet, k);
     }
 }
 
 // Every field behind the head.
+#[tactic(auto, using(sheet::proofs::Lengths::pairs_le))]
 fn read_columns(sheet: &[u8], layout: Layout, columns: &mut Columns)
     requires { HeadRead sheet.now layout.m }
     ensures { ColumnsRead sheet.now (held columns.old) (held columns.new) }
 {
-    let n = layout.m as usize;
-    read_column(&mut columns.departures, sheet, Column::departures(), n);
-    read_column(&mut columns.driving, sheet, Column::driving(), n);
-    read_column(&mut columns.delays, sheet, Column::delays(), n);
-    read_column(
-        &mut columns.passengers,
-        sheet,
-        layout.passengers(),
-        layout.pairs(),
-    );
+    let m = layout.m as usize;
+    let n = layout.pairs();
+    read_column(&mut columns.departures[..m], sheet, Column::departures());
+    read_column(&mut columns.driving[..m], sheet, Column::driving());
+    read_column(&mut columns.delays[..m], sheet, Column::delays());
+    read_column(&mut columns.passengers[..n], sheet, layout.passengers());
 }
 
 // The filling bits.
-#[tactic(auto, using(sheet::proofs::Lengths::filling_within), unfolding(sheet::specs::Checks::filling_verdict, sheet::specs::Format::filling_of, terms::specs::Verdict::verdict_of, lists::specs::Choice::if_below))]
+#[tactic(auto, using(sheet::proofs::Lengths::filling_within), unfolding(sheet::specs::Checks::filling_verdict, terms::specs::Verdict::verdict_of, lists::specs::Choice::if_below))]
 fn check_filling(sheet: &[u8], layout: Layout) -> Verdict
     requires { HeadRead sheet.now layout.m }
     ensures { result ≡ filling_verdict sheet.now }

@@ -4,4 +4,4 @@ use Rattle.sheet.specs.Format.{entry}
 use Rattle.reader.proofs.decoding.read_column.Given as goal
 
 abbrev pub invariant-loop-k : goal.invariant-loop-k
-invariant-loop-k l = Filled 0 (entry l.sheet l.column) l.k l.initial.place-items l.place-items
+invariant-loop-k l = Filled 0 (entry l.sheet l.column) l.k l.initial.list l.list

@@ -1,15 +1,7 @@
--- `read_columns` meets its contract: every field lies within the sheet, and each list is filled with its column.
-use Rattle.std.proofs.Common.{◌≡◌, List, ℕ, lit≤, rules}
-use Rattle.lists.specs.Filled.{Filled}
-use Rattle.sheet.specs.declared.format.Column.{Column}
-use Rattle.sheet.specs.Format.{entry}
+-- `read_columns` meets its contract: every field lies within the sheet, and each list begins with its column.
+use Rattle.std.proofs.Common.{lit≤, rules}
 use Rattle.reader.proofs.Columns.{train_room, passenger_room}
 use Rattle.reader.proofs.decoding.read_columns.Goals as goal
-
--- a list filled from a column that is c, with n places
-filled_column : (s : List ℕ) {old new : List ℕ} {n n' : ℕ} {c c' : Column} → n ≡ n' → c ≡ c'
-    → Filled 0 (entry s c) n old new → Filled 0 (entry s c') n' old new
-filled_column s p q h = rw (p, q) at h
 
 -- the departures: 12 bits from bit 18
 pub read_column-requires : goal.read_column-requires
@@ -32,5 +24,5 @@ read_column-requires-3 c =
 -- the passengers: 14 bits each, behind the trains
 pub read_column-requires-4 : goal.read_column-requires-4
 read_column-requires-4 c =
-    rw (c.passengers.ensures, c.pairs.ensures)
+    rw (c.passengers.ensures, c.pairs-n.ensures)
     (passenger_room _ _ c.args.layout.few c.requires _ (search rules))
