@@ -3,13 +3,14 @@ use records::source::short;
 use std::io;
 use std::io::Read;
 
-// The places of the longest lists that can be lent: for cells, and for trains.
+// The places of the longest buffers that can be lent: for cells, and for trains.
 pub const CELLS: usize = 4100;
 
 pub const TRAINS: usize = 70;
 
+// Buffers, lent to be read.
 #[derive(Clone, Copy)]
-pub struct Lists<'a> {
+pub struct Buffers<'a> {
     pub cells: &'a [u64],
     pub decisions: &'a [u8],
     pub delays: &'a [u32],

@@ -1,9 +1,10 @@
 // Runs plan and report on records from a reader and prints what they answer and leave.
-// A record is a name ('N'), a sheet to plan, its lists shown as sums ('P') or in full ('L'), or a
-// run of several steps on one sheet, the lists shown as sums ('R') or in full ('F').
+// A record is a name ('N'), a sheet to plan, the buffers shown as sums ('P') or in full ('L'), or a
+// run of several steps on one sheet, the buffers shown as sums ('R') or in full ('F').
 // tests/plans.py gives the form of the first three, tests/reports.py that of a run.
 #![tactic(auto)]
 
+mod calls;
 mod changes;
 mod lent;
 mod marks;
@@ -17,7 +18,7 @@ use records::{Kind, source};
 use std::io;
 use std::io::{Read, Write};
 
-// What a record asks for, and how the lists are shown.
+// What a record asks for, and how the buffers are shown.
 #[derive(Clone, Copy)]
 enum Asked {
     Name,

@@ -1,35 +1,24 @@
 // Records of plan.
-use crate::lent::{CELLS, Lengths, Lists, TRAINS};
+use crate::calls::Call;
+use crate::lent::Lengths;
 use crate::shown::Shown;
 use crate::{changes, marks, shown};
 use records::source::SHEET;
-use records::{Answered, source};
+use records::{front, source};
 use std::io;
 use std::io::{Read, Write};
 
-// Plans into buffers of these lengths, in which every place holds a pattern, so that what is not
-// written is seen.
-fn plan<W: Write>(out: &mut W, sheet: &[u8], lent: Lengths, shown: Shown) -> io::Result<()> {
+// Plans on marked cells, and shows those that were lent.
+fn plan<W: Write>(out: &mut W, sheet: &mut [u8], lent: Lengths, shown: Shown) -> io::Result<()> {
     let mut cells = marks::all();
-    let mut decisions = [7u8; TRAINS];
-    let mut delays = [77_777u32; TRAINS];
-    let cells = &mut cells[..lent.cells.min(CELLS)];
-    let decisions = &mut decisions[..lent.decisions.min(TRAINS)];
-    let delays = &mut delays[..lent.delays.min(TRAINS)];
-    let answer = planner::plan(sheet, cells, decisions, delays);
-    let lists = Lists {
-        cells,
-        decisions,
-        delays,
-    };
-    let total = answer.unwrap_or(0);
-    write!(out, "plan {} {total}", Answered(answer))?;
+    let left = Call::Plan.ask(lent, sheet, &mut cells);
+    let buffers = left.with(front(&cells, lent.cells));
     match shown {
-        Shown::Sums => writeln!(out, " {}", shown::sums_of(lists)),
+        Shown::Sums => writeln!(out, "{left} {}", shown::sums_of(buffers)),
         Shown::Full => {
-            writeln!(out)?;
-            shown::lists(out, sheet, answer, lists)?;
-            changes::show(out, &marks::all(), lists.cells)
+            writeln!(out, "{left}")?;
+            shown::lists(out, sheet, left.answer, buffers)?;
+            changes::show(out, &marks::all(), buffers.cells)
         }
     }
 }

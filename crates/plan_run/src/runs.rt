@@ -1,46 +1,15 @@
 // Runs: one sheet and one set of working cells, kept over several steps. A step sets a cell ('C'),
 // plans ('P') or reports a delay ('D').
-use crate::lent::{CELLS, Lengths, Lists, TRAINS};
+use crate::calls::Call;
+use crate::lent::{CELLS, Lengths};
 use crate::printed::Listed;
 use crate::shown::Shown;
 use crate::{changes, marks, shown};
 use records::source::{SHEET, byte, long, number, short};
-use records::{Answered, source, sums};
+use records::{source, sums};
 use std::io;
 use std::io::{Read, Write};
-use terms::{Answer, Train};
-
-// What a step calls.
-#[derive(Clone, Copy)]
-enum Call {
-    Plan,
-    Report { train: Train, delay: u32 },
-}
-
-impl Call {
-    // Its name, as it is printed.
-    fn name(self) -> &'static str {
-        match self {
-            Call::Plan => "plan",
-            Call::Report { .. } => "report",
-        }
-    }
-
-    fn run(
-        self,
-        sheet: &mut [u8],
-        cells: &mut [u64],
-        decisions: &mut [u8],
-        delays: &mut [u32],
-    ) -> Answer {
-        match self {
-            Call::Plan => planner::plan(sheet, cells, decisions, delays),
-            Call::Report { train, delay } => {
-                planner::report(sheet, train, delay, cells, decisions, delays)
-            }
-        }
-    }
-}
+use terms::Train;
 
 #[derive(Clone, Copy)]
 enum Step {
@@ -68,7 +37,7 @@ impl Step {
     }
 }
 
-// Calls, into decisions and delays that hold a pattern, and shows what was answered and left.
+// Calls, and shows what was answered and left, with all cells.
 fn ask<W: Write>(
     out: &mut W,
     call: Call,
@@ -78,31 +47,20 @@ fn ask<W: Write>(
     shown: Shown,
 ) -> io::Result<()> {
     let before = *cells;
-    let mut decisions = [7u8; TRAINS];
-    let mut delays = [77_777u32; TRAINS];
-    let decisions = &mut decisions[..lent.decisions.min(TRAINS)];
-    let delays = &mut delays[..lent.delays.min(TRAINS)];
-    let answer = call.run(
-        sheet,
-        &mut cells[..lent.cells.min(CELLS)],
-        decisions,
-        delays,
-    );
-    let lists = Lists {
-        cells,
-        decisions,
-        delays,
-    };
-    let name = call.name();
-    let total = answer.unwrap_or(0);
-    write!(out, "{name} {} {total}", Answered(answer))?;
+    let left = call.ask(lent, sheet, cells);
+    let buffers = left.with(cells);
     match shown {
-        Shown::Sums => writeln!(out, " {} {}", shown::sums_of(lists), sums::of(sheet)),
+        Shown::Sums => writeln!(
+            out,
+            "{left} {} {}",
+            shown::sums_of(buffers),
+            sums::of(sheet)
+        ),
         Shown::Full => {
-            writeln!(out)?;
-            shown::lists(out, sheet, answer, lists)?;
+            writeln!(out, "{left}")?;
+            shown::lists(out, sheet, left.answer, buffers)?;
             writeln!(out, "sheet{}", Listed(sheet))?;
-            changes::show(out, &before, lists.cells)
+            changes::show(out, &before, buffers.cells)
         }
     }
 }

@@ -2,7 +2,7 @@
 ghost use Rattle.std.specs.Prelude.{◌≡◌, ◌≤◌, IfSome};
 ghost use Rattle.records.specs.Weighed.{sum_of};
 
-use crate::lent::Lists;
+use crate::lent::Buffers;
 use crate::printed;
 use crate::printed::Listed;
 use records::sums;
@@ -10,14 +10,14 @@ use std::io::Write;
 use std::{fmt, io};
 use terms::Answer;
 
-// How the lists are shown.
+// How the buffers are shown.
 #[derive(Clone, Copy)]
 pub enum Shown {
     Sums,
     Full,
 }
 
-// The lists as sums.
+// The buffers as sums.
 #[derive(Clone, Copy)]
 pub struct Sums {
     decisions: u64,
@@ -31,15 +31,15 @@ impl fmt::Display for Sums {
     }
 }
 
-pub fn sums_of(lists: Lists) -> Sums
-    ensures decisions { result.decisions ≡ sum_of lists.entry.decisions.now }
-    ensures delays { result.delays ≡ sum_of lists.entry.delays.now }
-    ensures cells { result.cells ≡ sum_of lists.entry.cells.now }
+pub fn sums_of(buffers: Buffers) -> Sums
+    ensures decisions { result.decisions ≡ sum_of buffers.entry.decisions.now }
+    ensures delays { result.delays ≡ sum_of buffers.entry.delays.now }
+    ensures cells { result.cells ≡ sum_of buffers.entry.cells.now }
 {
     Sums {
-        decisions: sums::of(lists.decisions),
-        delays: sums::of(lists.delays),
-        cells: sums::of(lists.cells),
+        decisions: sums::of(buffers.decisions),
+        delays: sums::of(buffers.delays),
+        cells: sums::of(buffers.cells),
     }
 }
 
@@ -50,12 +50,17 @@ fn trains(sheet: &[u8]) -> usize
     sheet.first().map_or(0, |byte| usize::from(byte / 2))
 }
 
-// The lists in full, with the cells in use where the call was accepted.
-pub fn lists<W: Write>(out: &mut W, sheet: &[u8], answer: Answer, lists: Lists) -> io::Result<()> {
-    writeln!(out, "decisions{}", Listed(lists.decisions))?;
-    writeln!(out, "delays{}", Listed(lists.delays))?;
+// The buffers in full, with the cells in use where the call was accepted.
+pub fn lists<W: Write>(
+    out: &mut W,
+    sheet: &[u8],
+    answer: Answer,
+    buffers: Buffers,
+) -> io::Result<()> {
+    writeln!(out, "decisions{}", Listed(buffers.decisions))?;
+    writeln!(out, "delays{}", Listed(buffers.delays))?;
     if answer.is_ok() {
-        printed::rows(out, lists.cells, trains(sheet))?;
+        printed::rows(out, buffers.cells, trains(sheet))?;
     }
     Ok(())
 }
