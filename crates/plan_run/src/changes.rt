@@ -1,13 +1,13 @@
 // How many working cells a step changed, by what they held before.
-use std::io;
 use std::io::Write;
+use std::{io, iter};
 
-// How many cells are not as they were. At least as many are known from before.
+// How many cells are not as they were; one behind those known from before was 0.
 fn changed(before: &[u64], cells: &[u64]) -> usize {
-    before
+    cells
         .iter()
-        .zip(cells)
-        .filter(|(old, new)| old != new)
+        .zip(before.iter().chain(iter::repeat(&0)))
+        .filter(|(new, old)| new != old)
         .count()
 }
 
