@@ -6,7 +6,7 @@ ghost use Rattle.cells.specs.Book.{BookGiven};
 
 use crate::costs::{Cost, Costs};
 use crate::sums::Sums;
-use crate::tables::Tables;
+use crate::sources::Sources;
 use crate::timing::{Timing, cost};
 use terms::Train;
 
@@ -27,13 +27,13 @@ impl<'a> Book<'a> {
     ghost use Rattle.cells.specs.Held.{book_held};
 
     // Those who board are counted from the sums.
-    pub fn new(m: u32, tables: &'a Tables) -> Book<'a>
-        requires { BookGiven m tables.now.timing tables.now.sums }
+    pub fn new(m: u32, sources: &'a Sources) -> Book<'a>
+        requires { BookGiven m sources.now.timing sources.now.sums }
         ensures m { result.m ≡ m }
-        ensures timing { result.timing.now ≡ tables.now.timing }
-        ensures sums { result.sums.list.now ≡ tables.now.sums }
+        ensures timing { result.timing.now ≡ sources.now.timing }
+        ensures sums { result.sums.list.now ≡ sources.now.sums }
     {
-        let Tables { timing, sums } = tables;
+        let Sources { timing, sums } = sources;
         let sums = Sums::new(m, sums);
         let boarding = sums.boarders();
         Book {

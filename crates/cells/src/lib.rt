@@ -1,11 +1,12 @@
-// The working cells and what they are worked from: where the cells stand, the times of a line, the
-// sums of those who leave, and what the two choices cost along a run. Nothing here writes a cell.
+// The working cells and what they are worked from: where the cells stand and whether they are within
+// the limit, the times of a line, the sums of those who leave, the book of both, and what the two
+// choices cost along a run. Nothing here writes a cell.
 #![tactic(auto)]
 
 pub mod book;
 pub mod costs;
 pub mod limits;
 pub mod place;
+pub mod sources;
 pub mod sums;
-pub mod tables;
 pub mod timing;

@@ -47,7 +47,7 @@ fn print_trains<W: Write>(out: &mut W, decisions: &[u8], delays: &[u32]) -> io::
 }
 
 // The number of trains of an accepted sheet.
-#[tactic(auto, using(crate::proofs::Head::head_within))]
+#[tactic(auto, using(crate::proofs::Head::head_within, crate::proofs::Head::head_trains))]
 fn trains(sheet: &[u8]) -> usize
     requires { AcceptedSheet sheet.now }
     ensures is { result ≡ trains_of sheet.now }

@@ -17,7 +17,7 @@ fn plan<W: Write>(out: &mut W, sheet: &mut [u8], lent: Lengths, shown: Shown) ->
         Shown::Sums => writeln!(out, "{left} {}", shown::sums_of(buffers)),
         Shown::Full => {
             writeln!(out, "{left}")?;
-            shown::full(out, sheet, left.answer, buffers)?;
+            shown::lists(out, sheet, left.answer, buffers)?;
             changes::show(out, &marks::all(), buffers.cells)
         }
     }

@@ -60,7 +60,7 @@ fn ask<W: Write>(
         ),
         Shown::Full => {
             writeln!(out, "{left}")?;
-            shown::full(out, sheet, left.answer, buffers)?;
+            shown::lists(out, sheet, left.answer, buffers)?;
             writeln!(out, "sheet{}", Listed(sheet))?;
             changes::show(out, &before, buffers.cells)
         }

@@ -51,7 +51,7 @@ fn trains(sheet: &[u8]) -> usize
 }
 
 // The buffers in full, with the cells in use where the call was accepted.
-pub fn full<W: Write>(
+pub fn lists<W: Write>(
     out: &mut W,
     sheet: &[u8],
     answer: Answer,

@@ -11,7 +11,7 @@ ghost use Rattle.planner.specs.ReportChecks.{report_checks, own_verdict};
 
 use cells::limits::check_rows_after;
 use cells::place::{CELLS, Table};
-use cells::tables::Tables;
+use cells::sources::Sources;
 use prepare::prepare;
 use reader::Reading;
 use terms::{Delay, ListFault, Refusal, ReportFault, Verdict};
@@ -66,16 +66,16 @@ pub fn check_report(
     sheet: &[u8],
     delay: Delay,
     cells: &[u64],
-    tables: &mut Tables,
+    sources: &mut Sources,
 ) -> Reading
     requires { earlier ≡ Fine → length cells.now ≡ cell_count }
     ensures { Prepared
         (earlier and_then sheet_verdict sheet.now
         and_then own_verdict (trains_of sheet.now) delay.train.0 delay.minutes
         cells.now)
-        sheet.now tables.new.timing tables.new.sums result }
+        sheet.now sources.new.timing sources.new.sums result }
 {
-    let head = prepare(earlier, sheet, tables)?;
+    let head = prepare(earlier, sheet, sources)?;
     let table = Table::new(head.trains, cells);
     check_own(&table, delay)?;
     Ok(head)

@@ -18,7 +18,7 @@ ghost use Rattle.planner.specs.Workable.{DelayRoom};
 
 use crate::checking::{check_buffers, check_report};
 use crate::settling::settle;
-use cells::tables::Tables;
+use cells::sources::Sources;
 use cells::timing::Timing;
 use prepare::prepare;
 use sheet::format::Column;
@@ -54,12 +54,12 @@ pub fn plan(sheet: &[u8], cells: &mut [u64], decisions: &mut [u8], delays: &mut 
         result }
 {
     let lengths = check_buffers(cells.len(), decisions.len(), delays.len());
-    let mut tables = Tables::zeros();
-    match prepare(lengths, sheet, &mut tables) {
+    let mut sources = Sources::zeros();
+    match prepare(lengths, sheet, &mut sources) {
         Err(refusal) => refuse(refusal, decisions, delays),
         Ok(head) => {
             let m = head.trains;
-            Ok(settle(m, Train(m), cells, decisions, delays, &tables))
+            Ok(settle(m, Train(m), cells, decisions, delays, &sources))
         }
     }
 }
@@ -101,13 +101,13 @@ pub fn report(
         result }
 {
     let lengths = check_buffers(cells.len(), decisions.len(), delays.len());
-    let mut tables = Tables::zeros();
-    match check_report(lengths, sheet, delay, cells, &mut tables) {
+    let mut sources = Sources::zeros();
+    match check_report(lengths, sheet, delay, cells, &mut sources) {
         Err(refusal) => refuse(refusal, decisions, delays),
         Ok(head) => {
-            replace_delay(sheet, &mut tables.timing, delay);
+            replace_delay(sheet, &mut sources.timing, delay);
             let m = head.trains;
-            Ok(settle(m, delay.train, cells, decisions, delays, &tables))
+            Ok(settle(m, delay.train, cells, decisions, delays, &sources))
         }
     }
 }

@@ -8,7 +8,7 @@ ghost use Rattle.planner.specs.Workable.{Workable};
 use cells::book::Book;
 use cells::costs::Costs;
 use cells::place::Table;
-use cells::tables::Tables;
+use cells::sources::Sources;
 use rows::work_rows;
 use terms::Train;
 use walk::follow;
@@ -22,16 +22,16 @@ pub fn settle(
     cells: &mut [u64],
     decisions: &mut [u8],
     delays: &mut [u32],
-    tables: &Tables,
+    sources: &Sources,
 ) -> u64
     requires { Workable m last.0 (buffers cells.old decisions.old delays.old)
-        × BookGiven m tables.now.timing tables.now.sums }
-    ensures { Settled (book_in m tables.now.timing tables.now.sums) last.0
+        × BookGiven m sources.now.timing sources.now.sums }
+    ensures { Settled (book_in m sources.now.timing sources.now.sums) last.0
         (buffers cells.old decisions.old delays.old)
         (buffers cells.new decisions.new delays.new)
         result }
 {
-    let book = Book::new(m, tables);
+    let book = Book::new(m, sources);
     let mut costs = Costs::zeros();
     work_rows(cells, &mut costs, &book, last);
     let table = Table::new(m, cells);

@@ -14,32 +14,32 @@ ghost use Rattle.prepare.specs.Prepared.{Prepared};
 use crate::fields::Fields;
 use crate::sums::sum_columns;
 use crate::times::fill_timing;
-use cells::tables::Tables;
+use cells::sources::Sources;
 use reader::Reading;
 use reader::decoding::decode;
-use sheet::numbers::Columns;
+use sheet::numbers::Arrays;
 use terms::Verdict;
 
 // Takes the sheet apart and, if it is accepted, fills times and sums.
-fn prepare_sheet(sheet: &[u8], tables: &mut Tables) -> Reading
+fn prepare_sheet(sheet: &[u8], sources: &mut Sources) -> Reading
     ensures { Prepared (sheet_verdict sheet.now) sheet.now
-        tables.new.timing tables.new.sums result }
+        sources.new.timing sources.new.sums result }
 {
-    let mut columns = Columns::zeros();
+    let mut columns = Arrays::zeros();
     let head = decode(sheet, &mut columns)?;
-    fill_timing(&mut tables.timing, head, columns.lists());
+    fill_timing(&mut sources.timing, head, columns.lists());
     sum_columns(
-        &mut tables.sums,
+        &mut sources.sums,
         &Fields::new(head.trains, &columns.passengers),
     );
     Ok(head)
 }
 
 // The same, unless an earlier check refused.
-pub fn prepare(earlier: Verdict, sheet: &[u8], tables: &mut Tables) -> Reading
+pub fn prepare(earlier: Verdict, sheet: &[u8], sources: &mut Sources) -> Reading
     ensures { Prepared (earlier and_then sheet_verdict sheet.now)
-        sheet.now tables.new.timing tables.new.sums result }
+        sheet.now sources.new.timing sources.new.sums result }
 {
     earlier?;
-    prepare_sheet(sheet, tables)
+    prepare_sheet(sheet, sources)
 }

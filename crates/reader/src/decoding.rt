@@ -13,7 +13,7 @@ use bits::field;
 use sheet::checks::{check_numbers, check_ranges};
 use sheet::format::{Column, PERIOD_AT, PERIOD_WIDTH, TRAINS_AT, TRAINS_WIDTH};
 use sheet::layout::Layout;
-use sheet::numbers::Columns;
+use sheet::numbers::Arrays;
 use terms::{Head, HeadFault, Refusal, Verdict};
 
 // Under 3 bytes; m and T; shorter or longer than m demands.
@@ -51,7 +51,7 @@ fn read_column(list: &mut [u32], sheet: &[u8], column: Column)
 
 // Every field behind the head.
 #[tactic(auto, using(sheet::proofs::Lengths::pairs_le))]
-fn read_columns(sheet: &[u8], layout: Layout, columns: &mut Columns)
+fn read_columns(sheet: &[u8], layout: Layout, columns: &mut Arrays)
     requires { HeadRead sheet.now layout.m }
     ensures { ColumnsRead sheet.now (held columns.old) (held columns.new) }
 {
@@ -76,7 +76,7 @@ fn check_filling(sheet: &[u8], layout: Layout) -> Verdict
 }
 
 // The numbers of the sheet, which stand in the lists, then its filling bits.
-fn check_body(sheet: &[u8], layout: Layout, columns: &Columns) -> Verdict
+fn check_body(sheet: &[u8], layout: Layout, columns: &Arrays) -> Verdict
     requires { Body sheet.now layout.m (held columns.now) }
     ensures { result ≡ body_verdict sheet.now }
 {
@@ -86,7 +86,7 @@ fn check_body(sheet: &[u8], layout: Layout, columns: &Columns) -> Verdict
 
 // A sheet taken apart, each field read once. A head that is refused leaves the lists as they were;
 // a body that is refused leaves the fields in them.
-pub fn decode(sheet: &[u8], columns: &mut Columns) -> Reading
+pub fn decode(sheet: &[u8], columns: &mut Arrays) -> Reading
     ensures { Decoded sheet.now (held columns.old) (held columns.new) result }
 {
     let head = read_head(sheet)?;

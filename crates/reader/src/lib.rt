@@ -13,7 +13,7 @@ ghost use Rattle.reader.specs.Read.{Read};
 
 use crate::decoding::decode;
 use sheet::checks::check_lengths;
-use sheet::numbers::{Columns, Lists};
+use sheet::numbers::{Arrays, Lists};
 use terms::{Head, ListFault, Refusal};
 
 // What read answers, and what a sheet that is decoded or prepared answers: m and T, or why not.
@@ -51,7 +51,7 @@ fn read_sheet(
         delays.new passengers.new)
         result }
 {
-    let mut columns = Columns::zeros();
+    let mut columns = Arrays::zeros();
     let head = decode(sheet, &mut columns)?;
     departures.copy_from_slice(&columns.departures);
     driving.copy_from_slice(&columns.driving);

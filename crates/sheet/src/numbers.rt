@@ -14,22 +14,22 @@ pub struct Lists<'a> {
 }
 
 // Four lists with room for the numbers of any line.
-#[derive(Clone, Copy)]
-pub struct Columns {
+#[derive(Drop)]
+pub struct Arrays {
     pub departures: [u32; 64],
     pub driving: [u32; 64],
     pub delays: [u32; 64],
     pub passengers: [u32; 2080],
 }
 
-impl Columns {
-    pub fn zeros() -> Columns
+impl Arrays {
+    pub fn zeros() -> Arrays
         ensures departures { result.departures ≡ replicate 64 0 }
         ensures driving { result.driving ≡ replicate 64 0 }
         ensures delays { result.delays ≡ replicate 64 0 }
         ensures passengers { result.passengers ≡ replicate 2080 0 }
     {
-        Columns {
+        Arrays {
             departures: [0; 64],
             driving: [0; 64],
             delays: [0; 64],

@@ -7,17 +7,17 @@ use crate::sums::SUMS;
 use crate::timing::Timing;
 
 #[derive(Drop)]
-pub struct Tables {
+pub struct Sources {
     pub timing: Timing,
     pub sums: [u32; SUMS],
 }
 
-impl Tables {
-    pub fn zeros() -> Tables
+impl Sources {
+    pub fn zeros() -> Sources
         ensures timing { result.timing ≡ no_times }
         ensures sums { result.sums ≡ replicate sums_count 0 }
     {
-        Tables {
+        Sources {
             timing: Timing::zeros(),
             sums: [0; SUMS],
         }
