@@ -23,7 +23,8 @@ lengths_are : (c : After-check_lengths) →
     c.check_lengths.result ≡ lengths_verdict (OfList ListLength) m (pairs_of m) (lent c.args.numbers)
 lengths_are c =
     c.check_lengths.ensures
-    ∙ ap (λ (k : ℕ). lengths_verdict (OfList ListLength) c.args.head.trains k (lent c.args.numbers)) (rw c.new.ensures at c.pairs-pairs.ensures)
+    ∙ ap (λ (k : ℕ). lengths_verdict (OfList ListLength) c.args.head.trains k (lent c.args.numbers))
+    (rw c.new.ensures at c.pairs-pairs.ensures)
 
 -- the output buffer has another length
 pub returns-then-room-ne3907 : goal.returns-then-room-ne3907

@@ -35,7 +35,8 @@ pub put_sheet-requires : goal.put_sheet-requires
 put_sheet-requires c =
     let accepts = accepts_of_fine _ _ (fine (goal.at.put_sheet-requires c).In_ok-check_write) in
     record {
-      long = length-take-le _ _ (room (goal.at.put_sheet-requires c).After-bytes-n) ∙ (rw c.new.ensures at c.bytes-n.ensures);
+      long = length-take-le _ _ (room (goal.at.put_sheet-requires c).After-bytes-n)
+          ∙ (rw c.new.ensures at c.bytes-n.ensures);
       lengths = accepts.lengths;
       range = accepts.range;
     }

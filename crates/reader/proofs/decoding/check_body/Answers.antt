@@ -23,7 +23,8 @@ pub check_numbers-requires : goal.check_numbers-requires
 check_numbers-requires c =
     let lent = c.lists.ensures in
     rw (lent.departures, lent.driving, lent.delays, lent.passengers)
-    (body_room _ _ _ c.args.layout.few c.requires (rw (lent.departures, lent.driving, lent.delays, lent.passengers) at lent.long))
+    (body_room _ _ _ c.args.layout.few c.requires
+    (rw (lent.departures, lent.driving, lent.delays, lent.passengers) at lent.long))
 
 -- the numbers are refused
 pub returns-in_err-check_numbers : goal.returns-in_err-check_numbers

@@ -22,7 +22,8 @@ passed : (c : In_ok-check_ranges) →
     let s = c.args.sheet.now in
     ranges_verdict (trains_of s) (period_of s) ≡ Fine
 passed c =
-    sym (c.check_ranges.ensures ∙ ap₂ ranges_verdict c.field-trains.ensures c.field-period.ensures) ∙ c.in_ok-check_ranges.was
+    sym (c.check_ranges.ensures ∙ ap₂ ranges_verdict c.field-trains.ensures c.field-period.ensures)
+    ∙ c.in_ok-check_ranges.was
 
 -- the length that m demands
 demanded : (c : After-bytes-n) →
