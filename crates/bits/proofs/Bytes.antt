@@ -5,7 +5,8 @@ use Rattle.std.proofs.Common.{◌/◌, ◌%◌, ◌^◌, ◌≤◌, ◌<◌, mod
 use Rattle.std.proofs.Common.{length, get_or, shr-shr, ext_get_or, lt_of_le_of_lt, inl, inr, w8, bit_and, bit_or}
 use lib.Pow.{are_bytes}
 use Rattle.std.proofs.lemmas.Nat.{and_le_l, or_of_8}
-use Rattle.std.proofs.lemmas.Nat.Bits.{bit_at_clear_same, bit_at_clear_other, bit_at_set_same, bit_at_set_other, bit_at_above}
+use Rattle.std.proofs.lemmas.Nat.Bits.{bit_at_clear_same, bit_at_clear_other, bit_at_set_same, bit_at_set_other}
+use Rattle.std.proofs.lemmas.Nat.Bits.{bit_at_above}
 use Rattle.std.proofs.lemmas.Bool.{cases_lt, cases_eq}
 use Rattle.bits.specs.Field.{bit_at, field_of, BitPut, Bytes}
 use Rattle.bits.proofs.Fields.{field_same, same_bits}

@@ -2,7 +2,9 @@
 --   CostsTo m k timing sums costs late boarded i   the stations from k to i - 1 are done: train i - 1 arrived late by
 --     `late`, and `boarded` are those who board at k or later and leave train i or a later one
 -- Assumes nothing.
-use Rattle.std.proofs.Common.{◌≡◌, ap, sym, ◌∙◌, List, inl, inr, ℕ, ◌+◌, ◌-◌, ◌*◌, ◌≤◌, ◌<◌, le_refl, le_trans, le_of_eq, mul_comm, mul-le-mul, arith, length, length-set, get_or-set_same, get_or-set_other}
+use Rattle.std.proofs.Common.{◌≡◌, ap, sym, ◌∙◌, List, inl, inr, ℕ, ◌+◌, ◌-◌, ◌*◌, ◌≤◌, ◌<◌, le_refl, le_trans}
+use Rattle.std.proofs.Common.{le_of_eq, mul_comm, mul-le-mul, arith, length, length-set, get_or-set_same}
+use Rattle.std.proofs.Common.{get_or-set_other}
 use Rattle.std.proofs.lemmas.Bool.{cases_eq}
 use Rattle.lists.proofs.Held.{nth_index}
 use Rattle.line.specs.Line.{Running}

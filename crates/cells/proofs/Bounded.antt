@@ -1,5 +1,5 @@
--- How large what is given and what is worked can be: times and sums that are given make a book in range, and so every worked
--- cell is at most the limit.
+-- How large what is given and what is worked can be: times and sums that are given make a book in range, and so every
+-- worked cell is at most the limit.
 -- Assumes nothing.
 use Rattle.std.proofs.Common.{List, inl, inr, ℕ, ◌≤◌, le_trans, le_of_eq, arith}
 use Rattle.std.proofs.lemmas.Bool.{cases_lt}

@@ -5,8 +5,8 @@ ghost use Rattle.cells.specs.Sums.{Boarders};
 ghost use Rattle.cells.specs.Book.{BookGiven};
 
 use crate::costs::{Cost, Costs};
-use crate::sums::Sums;
 use crate::sources::Sources;
+use crate::sums::Sums;
 use crate::timing::{Timing, cost};
 use terms::Train;
 

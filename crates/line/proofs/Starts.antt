@@ -53,7 +53,8 @@ module _ (D : Day) (k : ℕ) where
 
   pub start_maintained : (s : ℕ) → D.missed s ≡ false → start_of D k (s + 1) ≡ start_of D k s
   unfolding start_of
-  start_maintained s m = let e : last_missed D (s + 1) ≡ last_missed D s = last_next D s ∙ cond-false _ _ _ m in omega arith
+  start_maintained s m =
+      let e : last_missed D (s + 1) ≡ last_missed D s = last_next D s ∙ cond-false _ _ _ m in omega arith
 
   -- train s is on a run that begins with it or before
   pub start_before : (s : ℕ) → k ≤ s → start_of D k (s + 1) ≤ s

@@ -2,7 +2,8 @@
 --   ColumnTo n l sums v k   the columns before l stand there, and in that of l the sums of stations k + 1 to l, of
 --                           which v was stored last; n are the passengers by pair
 -- Assumes nothing.
-use Rattle.std.proofs.Common.{◌≡◌, sym, ◌∙◌, List, inl, inr, ℕ, ◌+◌, ◌-◌, ◌*◌, ◌≤◌, ◌<◌, le_refl, arith, length, set, length-set, get_or-set_same, get_or-set_other}
+use Rattle.std.proofs.Common.{◌≡◌, sym, ◌∙◌, List, inl, inr, ℕ, ◌+◌, ◌-◌, ◌*◌, ◌≤◌, ◌<◌, le_refl, arith, length, set}
+use Rattle.std.proofs.Common.{length-set, get_or-set_same, get_or-set_other}
 use Rattle.std.proofs.lemmas.Bool.{cases_eq}
 use Rattle.line.specs.Sum.{sum◌from◌to◌}
 use Rattle.line.proofs.Sums.{sum_over, over_none, over_first}

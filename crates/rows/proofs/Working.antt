@@ -2,7 +2,8 @@
 -- was taken, and every later row stands.
 --   WorkedTo B t before cells diagonal i   rows i + 1 to t are worked, all else is as it was before
 -- Assumes nothing.
-use Rattle.std.proofs.Common.{◌≡◌, refl, ap, sym, ◌∙◌, List, ◌++◌, inl, inr, ℕ, ◌+◌, ◌-◌, ◌*◌, ◌≤◌, ◌<◌, le_refl, le_of_eq, eq-or-lt_of_le, arith, length, get_or, set, take, drop, replicate, length-set}
+use Rattle.std.proofs.Common.{◌≡◌, refl, ap, sym, ◌∙◌, List, ◌++◌, inl, inr, ℕ, ◌+◌, ◌-◌, ◌*◌, ◌≤◌, ◌<◌, le_refl}
+use Rattle.std.proofs.Common.{le_of_eq, eq-or-lt_of_le, arith, length, get_or, set, take, drop, replicate, length-set}
 use Rattle.std.proofs.Math.ListN.{get_or-eq_default}
 use Rattle.lists.specs.Run.{nth}
 use Rattle.std.proofs.lemmas.Bool.{cases_lt, cases_eq}

@@ -120,7 +120,8 @@ fn check_trains(m: u32, given: Lists) -> Verdict
 // The passenger fields, from the first on.
 fn check_passengers(passengers: &[u32]) -> Verdict
     requires { length passengers.now ≤ 2080 }
-    ensures { result ≡ first_of (passengers_verdict (nth passengers.now)) 1 (length passengers.now) }
+    ensures { result ≡ first_of (passengers_verdict (nth passengers.now)) 1
+        (length passengers.now) }
 {
     for (k, count) in passengers.iter().enumerate() {
         if 10000 < *count {

@@ -65,7 +65,8 @@ impl Column {
 
     // Place `k`, from 0, becomes `value`.
     pub fn put(self, sheet: &mut [u8], k: usize, value: u32)
-        requires { Within sheet.old (self.first + self.step * k) self.width × (value < 2 ^ self.width) }
+        requires { Within sheet.old (self.first + self.step * k) self.width
+            × (value < 2 ^ self.width) }
         ensures { Put sheet.old (self.first + self.step * k) self.width value sheet.new }
     {
         put(sheet, self.first + self.step * k, self.width, value);

@@ -71,7 +71,8 @@ impl Layout {
     // The passenger field, from 1, of those who board at one station and leave at another.
     pub fn field_of_pair(self, from: Station, to: Station) -> usize
         requires { IsPair self.m from.0 to.0 }
-        ensures { (result ≡ field_of_pair self.m from.0 to.0) × (1 ≤ result) × (result ≤ pairs_of self.m) }
+        ensures { (result ≡ field_of_pair self.m from.0 to.0) × (1 ≤ result)
+            × (result ≤ pairs_of self.m) }
     {
         let before = from.index();
         before * (2 * self.m as usize + 1 - before) / 2 + (to.0 - from.0) as usize

@@ -1,5 +1,5 @@
-// The numbers of a line in four lists: departures, driving times and source delays by train, and the
-// passengers by pair.
+// The numbers of a line in four lists: departures, driving times and source delays by train, and
+// the passengers by pair.
 ghost use Rattle.std.specs.Prelude.{◌≡◌, replicate};
 ghost use Rattle.sheet.specs.Accepted.{Lengths};
 ghost use Rattle.sheet.specs.Held.{lent};

@@ -1,7 +1,8 @@
 -- The walk along cells as they stand: one station's step, and what stands after the trains passed.
 --   Walking B c decisions delays costs first i   the walk stands at station i, on the run from `first`
 -- Assumes nothing.
-use Rattle.std.proofs.Common.{◌≡◌, refl, ap, ap₂, sym, ◌∙◌, List, ℕ, ◌+◌, ◌-◌, ◌≤◌, ◌<◌, le_refl, le_trans, le_of_eq, arith, set, replicate}
+use Rattle.std.proofs.Common.{◌≡◌, refl, ap, ap₂, sym, ◌∙◌, List, ℕ, ◌+◌, ◌-◌, ◌≤◌, ◌<◌, le_refl, le_trans, le_of_eq}
+use Rattle.std.proofs.Common.{arith, set, replicate}
 use Rattle.lists.specs.Choice.{if_below}
 use Rattle.lists.specs.Filled.{Filled}
 use Rattle.lists.proofs.Choice.{below_yes, below_no}
@@ -94,8 +95,8 @@ pub record Walking (B : Book) (c : Table) (decisions delays : List ℕ) (costs :
 module _ (B : Book) (c : Table) where
   -- the lists are blank; train 1 begins the first run, on time, and has nobody to wait for
   pub walk_start : (decisions delays : List ℕ) (costs : Costs) (k late : ℕ) → decisions ≡ replicate 64 0
-      → delays ≡ replicate 64 0 → k ≡ 0 → B.trains ≤ 64 → 1 ≤ B.trains → late ≡ arrival_on B.running 1 1 → CostsAlong B 1 costs
-      → Walking B c decisions (set delays k late) costs 1 2
+      → delays ≡ replicate 64 0 → k ≡ 0 → B.trains ≤ 64 → 1 ≤ B.trains → late ≡ arrival_on B.running 1 1
+      → CostsAlong B 1 costs → Walking B c decisions (set delays k late) costs 1 2
   walk_start decisions delays costs k late d y at few some e A =
       let first = sym (begins_first (choice B c)) in
       let arrives = e ∙ ap (λ (j : ℕ). arrival_on B.running j 1) first ∙ sym (decided_arrives B c 1 (le_refl 1)) in

@@ -56,7 +56,8 @@ fn put_filling(sheet: &mut [u8], layout: Layout)
 // The whole sheet into as many bytes as it has.
 pub fn put_sheet(sheet: &mut [u8], head: Head, numbers: Lists)
     requires { Writable (given head.trains head.period (lent numbers)) sheet.old }
-    ensures { SheetOf (numbers_given (given head.trains head.period (lent numbers.entry))) sheet.new }
+    ensures { SheetOf (numbers_given (given head.trains head.period (lent numbers.entry)))
+        sheet.new }
 {
     let layout = Layout::new(head.trains);
     put_head(sheet, head);

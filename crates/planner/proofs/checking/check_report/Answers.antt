@@ -31,7 +31,8 @@ returns-in_err-check_own c =
     let same : c.from_residual-in_err-check_own.result ≡ Err c.in_err-check_own.field-0.0 = search rules in
     let checked = c.prepare.ensures in
     let answer = c.in_ok-head.was in
-    let own = rw (c.new-table.ensures.m, c.new-table.ensures.cells, taken_trains checked answer) at c.check_own.ensures in
+    let table = c.new-table.ensures in
+    let own = rw (table.m, table.cells, taken_trains checked answer) at c.check_own.ensures in
     let refused = sym c.in_err-check_own.was ∙ own in
     rw same
     (prepared_refused _ _ _ _ _
@@ -42,6 +43,7 @@ pub returns : goal.returns
 returns c =
     let checked = c.prepare.ensures in
     let answer = c.in_ok-head.was in
-    let own = rw (c.new-table.ensures.m, c.new-table.ensures.cells, taken_trains checked answer) at c.check_own.ensures in
+    let table = c.new-table.ensures in
+    let own = rw (table.m, table.cells, taken_trains checked answer) at c.check_own.ensures in
     let fine = sym own ∙ c.in_ok-check_own.was in
     prepared_same (then_nothing _ _ fine ∙ then_assoc _ (sheet_verdict _) _) answer checked
