@@ -1,6 +1,6 @@
 // The working cells and what they are worked from: where the cells stand and whether they are
-// within the limit, the times of a line, the sums of those who leave, the book of both, and what the two
-// choices cost along a run. Nothing here writes a cell.
+// within the limit, the times of a line, the sums of those who leave, the book of both, and what
+// the two choices cost along a run. Nothing here writes a cell.
 #![tactic(auto)]
 
 pub mod book;
