@@ -1,5 +1,5 @@
 // Records of read.
-use crate::lent::{Lengths, PASSENGERS, TRAINS, front};
+use crate::lent::{Lengths, Room};
 use crate::writes;
 use crate::writes::BEFORE;
 use reader::{Reading, period, trains};
@@ -29,39 +29,28 @@ fn show<W: Write>(out: &mut W, answer: Reading, lists: Lists) -> io::Result<()> 
 }
 
 // An accepted sheet is written again from the front of the lists.
-fn back<W: Write>(out: &mut W, answer: Reading, lists: Lists) -> io::Result<()> {
+fn back<W: Write>(out: &mut W, answer: Reading, room: &Room) -> io::Result<()> {
     if let Ok(head) = answer {
         let mut buffer = [BEFORE; 3907];
-        let lists = front(lists, Lengths::of_trains(head.trains));
+        let lists = room.lists(Lengths::of_trains(head.trains));
         writes::show(out, "back", head, lists, &mut buffer)?;
     }
     Ok(())
 }
 
-// Reads a sheet into lists of 77s of these lengths.
-fn read<W: Write>(out: &mut W, sheet: &[u8], lent: Lengths) -> io::Result<()> {
-    let mut departures = [77u32; TRAINS];
-    let mut driving = [77u32; TRAINS];
-    let mut delays = [77u32; TRAINS];
-    let mut passengers = [77u32; PASSENGERS];
-    let departures = &mut departures[..lent.departures.min(TRAINS)];
-    let driving = &mut driving[..lent.driving.min(TRAINS)];
-    let delays = &mut delays[..lent.delays.min(TRAINS)];
-    let passengers = &mut passengers[..lent.passengers.min(PASSENGERS)];
-    let answer = reader::read(sheet, departures, driving, delays, passengers);
-    let lists = Lists {
-        departures,
-        driving,
-        delays,
-        passengers,
-    };
-    show(out, answer, lists)?;
-    back(out, answer, lists)
-}
-
+// Reads a sheet into lists of 77s.
 pub fn record<R: Read, W: Write>(from: &mut R, out: &mut W) -> io::Result<()> {
     let lent = Lengths::next(from)?;
-    let mut room = [0u8; SHEET];
-    let sheet = source::sheet(from, &mut room)?;
-    read(out, sheet, lent)
+    let mut bytes = [0u8; SHEET];
+    let sheet = source::sheet(from, &mut bytes)?;
+    let mut room = Room::filled(77);
+    let answer = reader::read(
+        sheet,
+        &mut room.departures[..lent.departures],
+        &mut room.driving[..lent.driving],
+        &mut room.delays[..lent.delays],
+        &mut room.passengers[..lent.passengers],
+    );
+    show(out, answer, room.lists(lent))?;
+    back(out, answer, &room)
 }

@@ -1,5 +1,5 @@
 // Records of write.
-use crate::lent::{Lengths, PASSENGERS, TRAINS};
+use crate::lent::{Lengths, Room};
 use records::source::{SHEET, list, number, short};
 use records::{Answered, sums};
 use sheet::numbers::Lists;
@@ -36,25 +36,12 @@ pub fn record<R: Read, W: Write>(from: &mut R, out: &mut W) -> io::Result<()> {
         period: number(from)?,
     };
     let lent = Lengths::next(from)?;
-    let room = short(from)?;
-    let mut departures = [0u32; TRAINS];
-    let mut driving = [0u32; TRAINS];
-    let mut delays = [0u32; TRAINS];
-    let mut passengers = [0u32; PASSENGERS];
-    let departures = &mut departures[..lent.departures.min(TRAINS)];
-    let driving = &mut driving[..lent.driving.min(TRAINS)];
-    let delays = &mut delays[..lent.delays.min(TRAINS)];
-    let passengers = &mut passengers[..lent.passengers.min(PASSENGERS)];
-    list(from, departures)?;
-    list(from, driving)?;
-    list(from, delays)?;
-    list(from, passengers)?;
-    let lists = Lists {
-        departures,
-        driving,
-        delays,
-        passengers,
-    };
+    let length = short(from)?.min(SHEET);
+    let mut room = Room::filled(0);
+    list(from, &mut room.departures[..lent.departures])?;
+    list(from, &mut room.driving[..lent.driving])?;
+    list(from, &mut room.delays[..lent.delays])?;
+    list(from, &mut room.passengers[..lent.passengers])?;
     let mut buffer = [BEFORE; SHEET];
-    show(out, "write", head, lists, &mut buffer[..room.min(SHEET)])
+    show(out, "write", head, room.lists(lent), &mut buffer[..length])
 }
