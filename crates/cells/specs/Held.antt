@@ -9,7 +9,7 @@ use Rattle.cells.specs.Place.{table_of}
 use Rattle.cells.specs.Book.{book_in}
 
 abbrev pub book_held : Holder → Book
-book_held b = book_in b.m b.timing.now b.sums.list.now
+book_held b = book_in b.sums.m b.timing.now b.sums.list.now
 
 abbrev pub table_held : Lent → Table
 table_held t = table_of t.m t.cells.now

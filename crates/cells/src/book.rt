@@ -1,5 +1,6 @@
-// What cells are worked from, as one value: a line's times, the sums of those who leave, and by
-// station those who board there or later. Its fields are in range and belong together.
+// What cells are worked from, as one value: a line's times, the sums of those who leave, which hold
+// its trains, and by station those who board there or later. Its fields are in range and belong
+// together.
 ghost use Rattle.std.specs.Prelude.{◌≡◌};
 ghost use Rattle.cells.specs.Sums.{Boarders};
 ghost use Rattle.cells.specs.Book.{BookGiven};
@@ -12,13 +13,11 @@ use terms::Train;
 
 #[derive(Drop)]
 pub struct Book<'a> {
-    pub m: u32,
     pub timing: &'a Timing,
     pub sums: Sums<'a>,
     pub boarding: [u64; 64],
-    pub ghost given: { BookGiven m timing.now sums.list.now },
-    pub ghost same: { sums.m ≡ m },
-    pub ghost boarders: { Boarders m sums.list.now boarding },
+    pub ghost given: { BookGiven sums.m timing.now sums.list.now },
+    pub ghost boarders: { Boarders sums.m sums.list.now boarding },
 }
 
 impl<'a> Book<'a> {
@@ -29,7 +28,7 @@ impl<'a> Book<'a> {
     // Those who board are counted from the sums.
     pub fn new(m: u32, sources: &'a Sources) -> Book<'a>
         requires { BookGiven m sources.now.timing sources.now.sums }
-        ensures m { result.m ≡ m }
+        ensures m { result.sums.m ≡ m }
         ensures timing { result.timing.now ≡ sources.now.timing }
         ensures sums { result.sums.list.now ≡ sources.now.sums }
     {
@@ -37,7 +36,6 @@ impl<'a> Book<'a> {
         let sums = Sums::new(m, sums);
         let boarding = sums.boarders();
         Book {
-            m,
             timing,
             sums,
             boarding,
@@ -49,13 +47,13 @@ impl<'a> Book<'a> {
     // later, they are aboard.
     #[tactic(auto, using(crate::proofs::Along::along))]
     pub fn costs_along(&self, costs: &mut Costs, first: Train)
-        requires { (1 ≤ first.0) × (first.0 ≤ self.now.m) }
+        requires { (1 ≤ first.0) × (first.0 ≤ self.now.sums.m) }
         ensures { CostsAlong (book_held self.now) first.0 costs.new }
     {
         let from = first.leaves();
         let mut late: u64 = 0;
         let mut boarded = self.boarding[from.index()];
-        for i in first.0..=self.m {
+        for i in first.0..=self.sums.m {
             let train = Train(i);
             let station = train.leaves();
             let excess = self.timing.excess_at(station, late);

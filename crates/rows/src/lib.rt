@@ -66,13 +66,13 @@ fn work_row(
     first: Train,
     diagonal: &[u64; 64],
 ) -> u64
-    requires { RowGiven book.now.m first.0 cells.old diagonal.now }
+    requires { RowGiven book.now.sums.m first.0 cells.old diagonal.now }
     ensures { RowWorked (book_held book.now)
         first.0 diagonal.now cells.old cells.new result }
 {
     book.costs_along(costs, first);
-    let a = place(book.m, first, first.leaves());
-    let b = a + (book.m + 1 - first.0) as usize;
+    let a = place(book.sums.m, first, first.leaves());
+    let b = a + (book.sums.m + 1 - first.0) as usize;
     fill_row(&mut cells[a..b], first, costs, diagonal);
     cells[a]
 }
@@ -80,12 +80,12 @@ fn work_row(
 // The rows of `last` and of the trains before it, from the later rows as they stand. `costs` is
 // room to work in.
 pub fn work_rows(cells: &mut [u64], costs: &mut Costs, book: &Book, last: Train)
-    requires { RowsGiven book.now.m last.0 cells.old }
+    requires { RowsGiven book.now.sums.m last.0 cells.old }
     ensures { RowsWorked (book_held book.now) last.0
         cells.old cells.new }
 {
     let mut diagonal = [0u64; 64];
-    let table = Table::new(book.m, cells);
+    let table = Table::new(book.sums.m, cells);
     diagonal_after(&mut diagonal, &table, last);
     for i in (1..=last.0).rev() {
         let train = Train(i);

@@ -166,7 +166,7 @@ module _ (book : Holder) (t : Lent) where
   -- the station at which the walk stands can be stepped
   pub walk_asks : (decisions₀ delays₀ decisions delays : List ℕ) (costs : Costs) (first i : ℕ)
       → WalkGiven decisions₀ delays₀ t → Walking (book_held book) (table_held t) decisions delays costs first i
-      → i ≤ book.m → StepGiven (book_held book) first i costs t
+      → i ≤ book.sums.m → StepGiven (book_held book) first i costs t
   walk_asks decisions₀ delays₀ decisions delays costs first i given w last =
       let on = begins_le (choice (book_held book) (table_held t)) w.done w.some in
       record {
@@ -178,12 +178,12 @@ module _ (book : Holder) (t : Lent) where
       }
 
   -- and its train arrives no later than any can
-  pub walk_late : (k l : ℕ) (d : Decision) (f x : ℕ) (costs : Costs) → l ≤ book.m
+  pub walk_late : (k l : ℕ) (d : Decision) (f x : ℕ) (costs : Costs) → l ≤ book.sums.m
       → Stepped (book_held book) (table_held t) k l d f x costs → x ≤ latest
   walk_late k l d f x costs last s =
       le_trans (le_of_eq s.late)
-      (arrival_on_le book.m (running_in book.timing.now) (running_in_range book.m book.timing.now book.given.times) _ l
-      last)
+      (arrival_on_le book.sums.m (running_in book.timing.now)
+      (running_in_range book.sums.m book.timing.now book.given.times) _ l last)
 
 -- ---- what the walk rests on, beside what is answered by hand
 

@@ -118,7 +118,7 @@ pub fn follow(
     let mut first = Train(1);
     book.costs_along(costs, first);
     delays[first.index()] = book.timing.arrives(first, 0) as u32;
-    for i in 2..=book.m {
+    for i in 2..=book.sums.m {
         let train = Train(i);
         let step = decide_at(costs, table, book, first, train);
         first = step.first;

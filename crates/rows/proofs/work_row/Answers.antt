@@ -8,11 +8,11 @@ use Rattle.rows.proofs.work_row.Goals.{After-place-a}
 
 -- where the row begins, and that it ends within the cells
 spot : (c : After-place-a) →
-    let m = c.args.book.now.m in
+    let m = c.args.book.now.sums.m in
     let k = c.args.first.0 in
     (c.place-a.result ≡ place m k k) × (c.place-a.result + (m + 1 - k) ≤ length c.args.cells.now)
 spot c =
-    let e = c.place-a.ensures ∙ ap (place c.args.book.now.m c.args.first.0) c.leaves.ensures in
+    let e = c.place-a.ensures ∙ ap (place c.args.book.now.sums.m c.args.first.0) c.leaves.ensures in
     let fits = row_fits _ _ c.requires.first c.requires.last c.args.book.now.given.times.trains in
     (e, omega (arith, e, fits, c.requires.long))
 

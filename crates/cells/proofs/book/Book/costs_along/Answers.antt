@@ -9,8 +9,8 @@ use Rattle.cells.proofs.book.Book.costs_along.Goals as goal
 use Rattle.cells.proofs.book.Book.costs_along.Goals.{After-index-in-loop-i, After-put_costs}
 
 -- who boards where train i leaves, or later, read at its place
-boards_at : (book : Holder) (p i : ℕ) → p ≡ i - 1 → 1 ≤ i → i ≤ book.m
-    → get_or book.boarding p 0 ≡ boarded_in book.m book.sums.list.now i i
+boards_at : (book : Holder) (p i : ℕ) → p ≡ i - 1 → 1 ≤ i → i ≤ book.sums.m
+    → get_or book.boarding p 0 ≡ boarded_in book.sums.m book.sums.list.now i i
 boards_at book p i at least most = nth_index book.boarding p i at ∙ book.boarders.held i least most
 
 -- they are among those counted, who are no more than everyone
@@ -25,8 +25,8 @@ boards c =
 -- the stations up to i are done
 next : (c : After-put_costs) →
     let book = c.args.self.now in
-    CostsTo book.m c.leaves-from.result.0 book.timing.now book.sums.list.now c.put_costs.new.self c.arrives-late.result
-    (c.loop-i.boarded - c.leaving-leave.result) (c.loop-i.i + 1)
+    CostsTo book.sums.m c.leaves-from.result.0 book.timing.now book.sums.list.now c.put_costs.new.self
+    c.arrives-late.result (c.loop-i.boarded - c.leaving-leave.result) (c.loop-i.i + 1)
 next c =
     let book = c.args.self.now in
     let here = boards_at book c.index-in-loop-i.result c.loop-i.i (omega arith) (omega arith) (omega arith) in
