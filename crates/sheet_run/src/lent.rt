@@ -76,10 +76,12 @@ impl Room {
 
     // As many places of each list as are asked for, or all that it has.
     pub fn lists(&self, lengths: Lengths) -> Lists
-        ensures departures { result.departures.now ≡ take lengths.departures self.entry.now.departures }
+        ensures departures { result.departures.now ≡
+            take lengths.departures self.entry.now.departures }
         ensures driving { result.driving.now ≡ take lengths.driving self.entry.now.driving }
         ensures delays { result.delays.now ≡ take lengths.delays self.entry.now.delays }
-        ensures passengers { result.passengers.now ≡ take lengths.passengers self.entry.now.passengers }
+        ensures passengers { result.passengers.now ≡
+            take lengths.passengers self.entry.now.passengers }
     {
         Lists {
             departures: records::front(&self.departures, lengths.departures),
