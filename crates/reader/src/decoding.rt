@@ -80,7 +80,7 @@ fn check_body(sheet: &[u8], layout: Layout, columns: &Arrays) -> Verdict
     requires { Body sheet.now layout.m (held columns.now) }
     ensures { result ≡ body_verdict sheet.now }
 {
-    check_numbers(layout.m, columns.lists())?;
+    check_numbers(layout, columns.lists())?;
     check_filling(sheet, layout)
 }
 

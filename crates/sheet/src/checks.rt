@@ -133,12 +133,12 @@ fn check_passengers(passengers: &[u32]) -> Verdict
 
 // All trains, then all passenger fields.
 #[tactic(auto, using(crate::proofs::Lengths::pairs_le))]
-pub fn check_numbers(m: u32, given: Lists) -> Verdict
-    requires { Room m (lent given) }
-    ensures { result ≡ numbers_verdict m (times_lent given.entry)
+pub fn check_numbers(layout: Layout, given: Lists) -> Verdict
+    requires { Room layout.m (lent given) }
+    ensures { result ≡ numbers_verdict layout.m (times_lent given.entry)
         (nth given.entry.passengers.now) }
 {
-    check_trains(m, given)?;
-    let n = Layout::new(m).pairs();
+    check_trains(layout.m, given)?;
+    let n = layout.pairs();
     check_passengers(&given.passengers[..n])
 }

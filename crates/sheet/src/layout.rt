@@ -33,11 +33,11 @@ impl Layout {
     }
 
     // Its bytes, the filling bits included.
-    #[tactic(auto, using(crate::proofs::Lengths::bits_le), unfolding(crate::specs::Format::bytes_of))]
+    #[tactic(auto, unfolding(crate::specs::Format::bytes_of))]
     pub fn bytes(self) -> usize
         ensures { result ≡ bytes_of self.m }
     {
-        (self.bits() + 7) / 8
+        self.bits().div_ceil(8)
     }
 
     // Its filling bits, behind the last field.

@@ -23,10 +23,11 @@ fn check_write(room: usize, head: Head, numbers: Lists) -> Verdict
         return Err(Refusal::OfList(ListFault::BufferLength));
     }
     check_ranges(head)?;
+    let layout = Layout::new(head.trains);
     let n = head.trains as usize;
-    let pairs = Layout::new(head.trains).pairs();
+    let pairs = layout.pairs();
     check_lengths(Refusal::OfList(ListFault::ListLength), n, pairs, numbers)?;
-    check_numbers(head.trains, numbers)
+    check_numbers(layout, numbers)
 }
 
 // Writes the sheet of m, T and the four lists into the first bytes of `sheet`.

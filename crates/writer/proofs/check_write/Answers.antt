@@ -24,7 +24,7 @@ lengths_are : (c : After-check_lengths) →
 lengths_are c =
     c.check_lengths.ensures
     ∙ ap (λ (k : ℕ). lengths_verdict (OfList ListLength) c.args.head.trains k (lent c.args.numbers))
-    (rw c.new.ensures at c.pairs-pairs.ensures)
+    (rw c.new-layout.ensures at c.pairs-pairs.ensures)
 
 -- the output buffer has another length
 pub returns-then-room-ne3907 : goal.returns-then-room-ne3907
@@ -40,9 +40,9 @@ returns-in_err-check_ranges c =
     (then_pass _ _ _ (fine_of_passed _ (omega arith, tt))
     (then_stop _ _ c.in_err-check_ranges.was c.check_ranges.ensures))
 
-pub new-requires : goal.new-requires
-new-requires c =
-    (ranges_of_fine _ _ (right_ranges (goal.at.new-requires c).In_ok-check_ranges)).trains_most
+pub new-layout-requires : goal.new-layout-requires
+new-layout-requires c =
+    (ranges_of_fine _ _ (right_ranges (goal.at.new-layout-requires c).In_ok-check_ranges)).trains_most
 
 -- a list has another length
 pub returns-in_err-check_lengths : goal.returns-in_err-check_lengths
@@ -62,7 +62,7 @@ check_numbers-requires c =
     let l = lengths_of_fine _ _ _ _
     (sym (lengths_are (goal.at.check_numbers-requires c).After-check_lengths)
     ∙ c.in_ok-check_lengths.was) in
-    omega arith
+    rw c.new-layout.ensures (omega arith)
 
 -- the lengths pass: the numbers decide
 pub returns : goal.returns
@@ -71,4 +71,4 @@ returns c =
     then_pass _ _ _ (fine_of_passed _ (omega arith, tt))
     (then_pass _ _ _ (right_ranges (goal.at.returns c).In_ok-check_ranges)
     (then_pass _ _ _ (sym (lengths_are (goal.at.returns c).After-check_lengths) ∙ c.in_ok-check_lengths.was)
-    c.check_numbers.ensures))
+    (rw c.new-layout.ensures at c.check_numbers.ensures)))

@@ -18,13 +18,13 @@ returns-in_err-check_trains c =
 pub check_passengers-requires : goal.check_passengers-requires
 check_passengers-requires c =
     let room = c.requires in
-    rw (c.pairs-n.ensures, c.new.ensures, length-take-le (pairs_of c.args.m) _ room.passengers)
-    (pairs_le c.args.m room.trains.most)
+    rw (c.pairs-n.ensures, length-take-le (pairs_of c.args.layout.m) _ room.passengers)
+    (pairs_le c.args.layout.m c.args.layout.few)
 
 -- the trains pass: the passengers decide
 pub returns : goal.returns
 unfolding numbers_verdict
 returns c =
     then_pass _ _ _ (sym c.check_trains.ensures ∙ c.in_ok-check_trains.was)
-    (rw (c.pairs-n.ensures, c.new.ensures) at c.check_passengers.ensures
+    (rw c.pairs-n.ensures at c.check_passengers.ensures
     ∙ passengers_first _ _ c.requires.passengers)
