@@ -6,7 +6,6 @@ ghost use Rattle.planner.specs.Settled.{Settled};
 ghost use Rattle.planner.specs.Workable.{Workable};
 
 use cells::book::Book;
-use cells::costs::Costs;
 use cells::place::Table;
 use cells::sources::Sources;
 use rows::work_rows;
@@ -32,9 +31,8 @@ pub fn settle(
         result }
 {
     let book = Book::new(m, sources);
-    let mut costs = Costs::zeros();
-    work_rows(cells, &mut costs, &book, last);
+    work_rows(cells, &book, last);
     let table = Table::new(m, cells);
-    follow(decisions, delays, &mut costs, &table, &book);
+    follow(decisions, delays, &table, &book);
     table.cell_at(Train(1), Train(1).leaves())
 }

@@ -77,9 +77,8 @@ fn work_row(
     cells[a]
 }
 
-// The rows of `last` and of the trains before it, from the later rows as they stand. `costs` is
-// room to work in.
-pub fn work_rows(cells: &mut [u64], costs: &mut Costs, book: &Book, last: Train)
+// The rows of `last` and of the trains before it, from the later rows as they stand.
+pub fn work_rows(cells: &mut [u64], book: &Book, last: Train)
     requires { RowsGiven book.now.sums.m last.0 cells.old }
     ensures { RowsWorked (book_held book.now) last.0
         cells.old cells.new }
@@ -87,9 +86,10 @@ pub fn work_rows(cells: &mut [u64], costs: &mut Costs, book: &Book, last: Train)
     let mut diagonal = [0u64; 64];
     let table = Table::new(book.sums.m, cells);
     diagonal_after(&mut diagonal, &table, last);
+    let mut costs = Costs::zeros();
     for i in (1..=last.0).rev() {
         let train = Train(i);
-        let cell = work_row(cells, costs, book, train, &diagonal);
+        let cell = work_row(cells, &mut costs, book, train, &diagonal);
         diagonal[train.leaves().index()] = cell;
     }
 }

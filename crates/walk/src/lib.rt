@@ -100,15 +100,9 @@ fn decide_at(costs: &mut Costs, table: &Table, book: &Book, first: Train, train:
 }
 
 // At each station the lesser choice, on the run that its feeder is on. Train 1 has nobody to wait
-// for; what is after the last train is 0. `costs` is room to work in.
+// for; what is after the last train is 0.
 #[tactic(auto, using(crate::proofs::Walks::walking))]
-pub fn follow(
-    decisions: &mut [u8],
-    delays: &mut [u32],
-    costs: &mut Costs,
-    table: &Table,
-    book: &Book,
-)
+pub fn follow(decisions: &mut [u8], delays: &mut [u32], table: &Table, book: &Book)
     requires { WalkGiven decisions.old delays.old table.now }
     ensures { Walked (book_held book.now) (table_held table.now)
         decisions.new delays.new }
@@ -116,11 +110,12 @@ pub fn follow(
     decisions.fill(0);
     delays.fill(0);
     let mut first = Train(1);
-    book.costs_along(costs, first);
+    let mut costs = Costs::zeros();
+    book.costs_along(&mut costs, first);
     delays[first.index()] = book.timing.arrives(first, 0) as u32;
     for i in 2..=book.sums.m {
         let train = Train(i);
-        let step = decide_at(costs, table, book, first, train);
+        let step = decide_at(&mut costs, table, book, first, train);
         first = step.first;
         let k = train.index();
         decisions[k] = step.choice.byte();
