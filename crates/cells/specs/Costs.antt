@@ -1,7 +1,7 @@
 -- What the two choices cost along the run that begins with train k, but for the cells that they rest on: by station the
 -- excess, what keep costs and what go costs. Rows and walk both read it. Document 01, "The working cells". Stations
 -- count from 1.
---   no_costs                     the costs that are 0 at each of 64 stations
+--   zero_cost, no_costs          the costs of a station that are 0, and these at each of 64 stations
 --   cost_in costs l              the three of station l
 --   excess_in costs l, keep_in costs l, go_in costs l     one of them
 --   with_costs costs l cost      the costs with these three stored there

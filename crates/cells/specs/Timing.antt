@@ -1,13 +1,13 @@
 -- The times of a line, by train: the slack at the station that it leaves, its source delay, and the period at that
 -- station. They are prepared once from a sheet's numbers; everything that follows a delay or counts a missed connection
 -- reads them. Document 01, "The line and its numbers". Trains and stations count from 1.
---   no_times                the times that are 0 for each of 64 trains
---   train_times timing i       the times of train i, which leaves station i
+--   zero_times, no_times      the times of a train that are 0, and these for each of 64 trains
+--   train_times timing i      the times of train i, which leaves station i
 --   slack_in timing s, source_in timing i, period_in timing s     one of the three
---   with_times timing i x      the times with x as those of train i
---   with_source timing i v     the times with v as the source delay of train i
---   running_in timing       how the trains run
---   TimingGiven m timing    the numbers are in range for m trains
+--   with_times timing i x     the times with x as those of train i
+--   with_source timing i v    the times with v as the source delay of train i
+--   running_in timing         how the trains run
+--   TimingGiven m timing      the numbers are in range for m trains
 -- Assumes nothing.
 use Rattle.std.specs.Prelude.{ℕ, ◌+◌, ◌-◌, ◌≤◌, get_or, set, replicate}
 use Rattle.line.specs.Line.{Running}

@@ -1,6 +1,6 @@
-// What cells are worked from, as one value: a line's times, the sums of those who leave, which hold
-// its trains, and by station those who board there or later. Its fields are in range and belong
-// together.
+// What cells are worked from, as one value: a line's times, the sums of those who leave, with how
+// many trains it has, and by station those who board there or later. Its fields are in range and
+// belong together.
 ghost use Rattle.std.specs.Prelude.{◌≡◌};
 ghost use Rattle.cells.specs.Sums.{Boarders};
 ghost use Rattle.cells.specs.Book.{BookGiven};
