@@ -29,19 +29,19 @@ fn read_full<R: Read>(from: &mut R, buffer: &mut [u8]) -> io::Result<usize>
     Ok(n)
 }
 
-// Train 1 has no feeder to wait for.
+// Train 1 has no feeder to wait for. The space before the word is written with it.
 fn word(train: usize, decision: u8) -> &'static str {
     match (train, decision) {
-        (1, _) => "-",
-        (_, 1) => "keep",
-        _ => "go",
+        (1, _) => " -",
+        (_, 1) => " keep",
+        _ => " go",
     }
 }
 
 // The trains, one line each.
 fn print_trains<W: Write>(out: &mut W, decisions: &[u8], delays: &[u32]) -> io::Result<()> {
     for (train, (decision, delay)) in (1..).zip(decisions.iter().zip(delays)) {
-        writeln!(out, "{train} {} {delay}", word(train, *decision))?;
+        writeln!(out, "{train}{} {delay}", word(train, *decision))?;
     }
     Ok(())
 }
@@ -65,10 +65,15 @@ fn main(rt: HostRuntime) -> io::Result<()> {
     let sheet = &buffer[..n];
     let answer = plan(sheet, &mut cells, &mut decisions, &mut delays);
     let mut out = rt.stdout();
+    // the first word of a line is a write of its own
     match answer {
-        Err(refusal) => { writeln!(out, "refused {} {}", refusal.number(), refusal.place()) }
+        Err(refusal) => {
+            write!(out, "refused")?;
+            writeln!(out, " {} {}", refusal.number(), refusal.place())
+        }
         Ok(total) => {
-            writeln!(out, "total {total}")?;
+            write!(out, "total")?;
+            writeln!(out, " {total}")?;
             let m = trains(sheet);
             print_trains(&mut out, &decisions[..m], &delays[..m])
         }

@@ -5,13 +5,11 @@ ghost use Rattle.lists.specs.Run.{listed};
 
 use crate::lent::CELLS;
 
-// As many cells as a record can lend, each with its mark.
-pub fn all() -> [u64; CELLS]
-    ensures { result ≡ listed (λ (k : ℕ). k * 1000003) 1 4100 }
+// Each cell that a record can lend takes its mark.
+pub fn put(cells: &mut [u64; CELLS])
+    ensures { cells.new ≡ listed (λ (k : ℕ). k * 1000003) 1 4100 }
 {
-    let mut cells = [0u64; CELLS];
     for (k, cell) in cells.iter_mut().enumerate() {
         *cell = (k as u64 + 1) * 1_000_003;
     }
-    cells
 }

@@ -71,7 +71,8 @@ fn ask<W: Write>(
 pub fn record<R: Read, W: Write>(from: &mut R, out: &mut W, shown: Shown) -> io::Result<()> {
     let mut room = [0u8; SHEET];
     let sheet = source::sheet(from, &mut room)?;
-    let mut cells = marks::all();
+    let mut cells = [0u64; CELLS];
+    marks::put(&mut cells);
     for _ in 0..short(from)? {
         match Step::next(from)? {
             // where there is no such place, nothing is set

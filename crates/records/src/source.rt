@@ -24,10 +24,12 @@ pub fn load<R: Read>(from: &mut R, bytes: &mut [u8]) -> io::Result<()> {
     Ok(())
 }
 
-// The next N bytes.
+// The next N bytes, each asked for by itself: a terminal that ended before one may have the next.
 fn next<const N: usize, R: Read>(from: &mut R) -> io::Result<[u8; N]> {
     let mut bytes = [0u8; N];
-    load(from, &mut bytes)?;
+    for place in &mut bytes {
+        *place = byte(from)?.unwrap_or(0);
+    }
     Ok(bytes)
 }
 

@@ -1,7 +1,7 @@
 // What a list holds, as one number: each place, from 1, times what stands there, modulo 10^18.
 // It is worked from the last place down: the sum of what stands from a place on is added once for
 // each place.
-ghost use Rattle.std.specs.Prelude.{◌≡◌, ℕ, ◌+◌, ◌<◌, map};
+ghost use Rattle.std.specs.Prelude.{◌≡◌, ℕ, ◌+◌, ◌*◌, ◌<◌, map};
 ghost use Rattle.records.specs.Weighed.{cut, sum_of};
 
 // A number of a list.
@@ -40,6 +40,14 @@ impl Number for u64 {
 // What a sum is cut to.
 const CUT: u64 = 1_000_000_000_000_000_000;
 
+// A number below twice as much, cut: by a test, since a division at each place takes long.
+fn cut(n: u64) -> u64
+    requires { n < 2 * CUT }
+    ensures { result ≡ cut n }
+{
+    if n < CUT { n } else { n - CUT }
+}
+
 // The sum so far, and the sum of what stands at the places passed.
 #[derive(Drop)]
 struct Sum {
@@ -54,8 +62,8 @@ impl Sum {
         ensures { (result.tail ≡ cut (self.tail + value)) ×
             (result.total ≡ cut (self.total + result.tail)) }
     {
-        let tail = (self.tail + value % CUT) % CUT;
-        let total = (self.total + tail) % CUT;
+        let tail = cut(self.tail + value % CUT);
+        let total = cut(self.total + tail);
         Sum { total, tail }
     }
 }

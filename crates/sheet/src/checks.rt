@@ -117,7 +117,9 @@ fn check_trains(m: u32, given: Lists) -> Verdict
     Ok(())
 }
 
-// The passenger fields, from the first on.
+// The passenger fields, from the first on. Not inlined: within write, which has many numbers at
+// hand, the loop takes a third longer.
+#[inline(never)]
 fn check_passengers(passengers: &[u32]) -> Verdict
     requires { length passengers.now ≤ 2080 }
     ensures { result ≡ first_of (passengers_verdict (nth passengers.now)) 1

@@ -11,9 +11,11 @@ use std::io::{Read, Write};
 
 // What read answered, and what it left in the four lists.
 fn show<W: Write>(out: &mut W, answer: Reading, lists: Lists) -> io::Result<()> {
+    // the word is a write of its own
+    write!(out, "read")?;
     write!(
         out,
-        "read {} {} {}",
+        " {} {} {}",
         Answered(answer),
         trains(answer),
         period(answer)
