@@ -20,7 +20,9 @@ use reader::decoding::decode;
 use sheet::numbers::Arrays;
 use terms::Verdict;
 
-// Takes the sheet apart and, if it is accepted, fills times and sums.
+// Takes the sheet apart and, if it is accepted, fills times and sums. Not inlined, so that an
+// earlier refusal needs no room on the stack for the lists.
+#[inline(never)]
 fn prepare_sheet(sheet: &[u8], sources: &mut Sources) -> Reading
     ensures { Prepared (sheet_verdict sheet.now) sheet.now
         sources.new.timing sources.new.sums result }
