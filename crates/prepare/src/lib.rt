@@ -20,9 +20,7 @@ use reader::decoding::decode;
 use sheet::numbers::Arrays;
 use terms::Verdict;
 
-// Takes the sheet apart and, if it is accepted, fills times and sums. Not inlined, so that an
-// earlier refusal needs no room on the stack for the lists.
-#[inline(never)]
+// Takes the sheet apart and, if it is accepted, fills times and sums.
 fn prepare_sheet(sheet: &[u8], sources: &mut Sources) -> Reading
     ensures { Prepared (sheet_verdict sheet.now) sheet.now
         sources.new.timing sources.new.sums result }
