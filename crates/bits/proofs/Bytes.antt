@@ -3,6 +3,7 @@
 use Rattle.std.proofs.Common.{◌≡◌, sym, subst, ◌∙◌, Bool, true, false, ◌&&◌, List, [], ◌∷◌, ℕ, zero, suc, ◌+◌, ◌-◌, ◌*◌}
 use Rattle.std.proofs.Common.{◌/◌, ◌%◌, ◌^◌, ◌≤◌, ◌<◌, mod-lt, div-one, zero-add, arith, T, ltb, ltb→lt, lit<, lit≤}
 use Rattle.std.proofs.Common.{length, get_or, shr-shr, ext_get_or, lt_of_le_of_lt, inl, inr, w8, bit_and, bit_or}
+use Rattle.std.specs.Int.Bits.{or_zero_r}
 use lib.Pow.{are_bytes}
 use Rattle.std.proofs.lemmas.Nat.{and_le_l, or_of_8}
 use Rattle.std.proofs.lemmas.Nat.Bits.{bit_at_clear_same, bit_at_clear_other, bit_at_set_same, bit_at_set_other}
@@ -30,6 +31,20 @@ module _ (x k b : ℕ) (byte : x < 256) (within : k < 8) where
         holds = bit_at_set_same w8 x k within ∙ sym e;
         others = λ j ne. bit_at_set_other w8 x k within j ne;
       }
+
+-- the bit cleared, and then set where it becomes 1
+pub bit_replaced : (x k b : ℕ) → x < 256 → k < 8 → b < 2
+    → BitPut x k b (bit_or (bit_and x (255 - 1 * 2 ^ k % 256)) (b * 2 ^ k % 256))
+bit_replaced x k zero byte within bit =
+    let none : 0 * 2 ^ k % 256 ≡ 0 = omega arith in
+    rw (none, or_zero_r (bit_and x (255 - 1 * 2 ^ k % 256))) (bit_cleared x k 0 byte within (λ i. 0))
+bit_replaced x k (suc zero) byte within bit =
+    let cleared = bit_cleared x k 0 byte within (λ i. 0) in
+    record {
+      holds = bit_at_set_same w8 (bit_and x (255 - 1 * 2 ^ k % 256)) k within;
+      others = λ j ne. bit_at_set_other w8 (bit_and x (255 - 1 * 2 ^ k % 256)) k within j ne ∙ cleared.others j ne;
+    }
+bit_replaced x k (suc (suc b)) byte within bit = absurd (omega (arith, bit))
 
 -- so there is a byte with the one bit replaced
 pub record BytePut (x k b : ℕ) : Type 0 where

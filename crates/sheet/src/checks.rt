@@ -118,7 +118,7 @@ fn check_trains(m: u32, given: Lists) -> Verdict
 }
 
 // The passenger fields, from the first on. Not inlined: within write, which has many numbers at
-// hand, the loop takes a third longer.
+// hand, the loop takes nearly twice as long.
 #[inline(never)]
 fn check_passengers(passengers: &[u32]) -> Verdict
     requires { length passengers.now ≤ 2080 }
