@@ -1,6 +1,6 @@
 -- One bit of one byte replaced, and bytes against their bits: lists of bytes of one length with equal bits are equal.
 -- Assumes nothing.
-use Rattle.std.proofs.Common.{◌≡◌, sym, subst, ◌∙◌, Bool, true, false, ◌&&◌, List, [], ◌∷◌, ℕ, zero, suc, ◌+◌, ◌-◌, ◌*◌}
+use Rattle.std.proofs.Common.{◌≡◌, refl, sym, subst, ◌∙◌, Bool, true, false, ◌&&◌, List, [], ◌∷◌, ℕ, zero, suc, ◌+◌, ◌-◌, ◌*◌}
 use Rattle.std.proofs.Common.{◌/◌, ◌%◌, ◌^◌, ◌≤◌, ◌<◌, mod-lt, div-one, zero-add, arith, T, ltb, ltb→lt, lit<, lit≤}
 use Rattle.std.proofs.Common.{length, get_or, shr-shr, ext_get_or, lt_of_le_of_lt, inl, inr, w8, bit_and, bit_or}
 use Rattle.std.specs.Int.Bits.{or_zero_r}
@@ -8,7 +8,7 @@ use lib.Pow.{are_bytes}
 use Rattle.std.proofs.lemmas.Nat.{and_le_l, or_of_8}
 use Rattle.std.proofs.lemmas.Nat.Bits.{bit_at_clear_same, bit_at_clear_other, bit_at_set_same, bit_at_set_other}
 use Rattle.std.proofs.lemmas.Nat.Bits.{bit_at_above}
-use Rattle.std.proofs.lemmas.Bool.{cases_lt, cases_eq}
+use Rattle.std.proofs.lemmas.Bool.{cases_lt}
 use Rattle.bits.specs.Field.{bit_at, field_of, BitPut, Bytes}
 use Rattle.bits.proofs.Fields.{field_same, same_bits}
 
@@ -37,12 +37,13 @@ pub bit_replaced : (x k b : ℕ) → x < 256 → k < 8 → b < 2
     → BitPut x k b (bit_or (bit_and x (255 - 1 * 2 ^ k % 256)) (b * 2 ^ k % 256))
 bit_replaced x k zero byte within bit =
     let none : 0 * 2 ^ k % 256 ≡ 0 = omega arith in
-    rw (none, or_zero_r (bit_and x (255 - 1 * 2 ^ k % 256))) (bit_cleared x k 0 byte within (λ i. 0))
+    rw (none, or_zero_r (bit_and x (255 - 1 * 2 ^ k % 256))) (bit_cleared x k 0 byte within refl)
 bit_replaced x k (suc zero) byte within bit =
-    let cleared = bit_cleared x k 0 byte within (λ i. 0) in
+    let cleared = bit_cleared x k 0 byte within refl in
+    let done = bit_set (bit_and x (255 - 1 * 2 ^ k % 256)) k 1 (lt_of_le_of_lt (and_le_l x _) byte) within refl in
     record {
-      holds = bit_at_set_same w8 (bit_and x (255 - 1 * 2 ^ k % 256)) k within;
-      others = λ j ne. bit_at_set_other w8 (bit_and x (255 - 1 * 2 ^ k % 256)) k within j ne ∙ cleared.others j ne;
+      holds = done.holds;
+      others = λ j ne. done.others j ne ∙ cleared.others j ne;
     }
 bit_replaced x k (suc (suc b)) byte within bit = absurd (omega (arith, bit))
 
@@ -53,18 +54,12 @@ pub record BytePut (x k b : ℕ) : Type 0 where
   pub put : BitPut x k b byte
 
 pub byte_put : (x k b : ℕ) → x < 256 → k < 8 → b < 2 → BytePut x k b
-byte_put x k b byte within bit = elim (cases_eq b 0) [
-  | inl e ↦ record {
-    byte = _;
-    small = lt_of_le_of_lt (and_le_l x _) byte;
-    put = bit_cleared x k b byte within e;
-  }
-  | inr n ↦ record {
-    byte = _;
-    small = or_of_8 x _ byte (mod-lt (1 * 2 ^ k) (lit< tt));
-    put = bit_set x k b byte within (omega arith);
-  }
-]
+byte_put x k b byte within bit =
+    record {
+      byte = _;
+      small = or_of_8 _ _ (lt_of_le_of_lt (and_le_l x _) byte) (mod-lt (b * 2 ^ k) (lit< tt));
+      put = bit_replaced x k b byte within bit;
+    }
 
 -- ---- whole bytes
 

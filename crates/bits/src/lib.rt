@@ -27,8 +27,8 @@ pub fn field(bytes: &[u8], at: usize, width: usize) -> u32
     number
 }
 
-// `byte` with its bit of weight 2 ^ k replaced by `b`. With no test of `b`: a processor guesses
-// every second one wrong, and a sheet takes twice as long to write.
+// `byte` with its bit of weight 2 ^ k replaced by `b`. There is no test of `b`: a processor would
+// guess it wrong at every second bit of a sheet, which would take twice as long to write.
 fn with_bit(byte: u8, k: usize, b: u32) -> u8
     requires { (k < 8) × (b < 2) }
     ensures { BitPut byte k b result }

@@ -24,7 +24,8 @@ pub fn load<R: Read>(from: &mut R, bytes: &mut [u8]) -> io::Result<()> {
     Ok(())
 }
 
-// The next N bytes, each asked for by itself: a terminal that ended before one may have the next.
+// The next N bytes, 0 for each that the input lacks. Each is asked for, also after an end: a
+// terminal goes on behind one.
 fn next<const N: usize, R: Read>(from: &mut R) -> io::Result<[u8; N]> {
     let mut bytes = [0u8; N];
     for place in &mut bytes {

@@ -40,7 +40,7 @@ impl Number for u64 {
 // What a sum is cut to.
 const CUT: u64 = 1_000_000_000_000_000_000;
 
-// A number below twice as much, cut: by a test, since a division at each place takes long.
+// A number below twice that, cut. By a test, since a division at each place would take longer.
 fn cut(n: u64) -> u64
     requires { n < 2 * CUT }
     ensures { result ≡ cut n }
